@@ -1,0 +1,5 @@
+pub mod Sequences
+pub mod Utf8Table
+pub mod WhiteTable
+pub mod Admission
+pub mod Places

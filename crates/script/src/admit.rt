@@ -1,0 +1,75 @@
+// Admission: the test that bytes pass once, before anything else reads them.
+ghost use mathlib.Core.Path.{_≡_};
+ghost use mathlib.Core.List.{List};
+ghost use mathlib.Core.Bool.{true};
+ghost use Prim.Native.Nat.{ℕ};
+ghost use Rattle.std.specs.Results.{Cases};
+ghost use Rattle.std.specs.declared.option.Option.the-variants.{Some, None};
+ghost use Rattle.script.specs.Admission.{refusal, admitted, admits, number, values, Judged};
+use crate::refusal::Refusal;
+use crate::script::Admission;
+use crate::script::Script;
+use crate::sequences::Utf8;
+use crate::sequences::Utf8Sequences;
+use crate::sequences::run_end;
+
+// The most bytes that a script has: each place fits 32 bits, and so does the length.
+const LONGEST: usize = 0xFFFF_FFFF;
+
+impl<'a> Script<'a> {
+    // The bytes as a script, where they are UTF-8 and not too long.
+    pub fn admit(bytes: &'a [u8]) -> Admission<'a>
+        ensures refused { λ r. ⌜ r .refused ≡ refusal (now (bytes .entry)) ⌝ }
+        ensures script { λ r. ⌜ r .script .bytes .now ≡ admitted (now (bytes .entry)) ⌝ }
+        ensures judged { λ r. ⌜ Judged (now (bytes .entry)) (r .refused) ⌝ }
+    {
+        match why_not(bytes) {
+            None => Admission { script: Script { bytes }, refused: None },
+            Some(why) => Admission { script: Script { bytes: &[] }, refused: Some(why) },
+        }
+    }
+
+    pub fn bytes(&self) -> &'a [u8]
+        ensures { λ r. ⌜ now r ≡ now (self .entry) .bytes .now ⌝ }
+    {
+        self.bytes
+    }
+}
+
+impl Admission<'_> {
+    // For `?`.
+    pub fn checked(&self) -> Result<(), Refusal>
+        ensures { λ r. ⌜ Cases r (λ _. now (self .entry) .refused ≡ None) (λ why. now (self .entry) .refused ≡ Some why) ⌝ }
+    {
+        match self.refused {
+            None => Ok(()),
+            Some(why) => Err(why),
+        }
+    }
+}
+
+impl Refusal {
+    // The number by which the refusal is known outside.
+    pub fn number(self) -> u8
+        ensures { λ r. ⌜ r ≡ number self ⌝ }
+    {
+        match self {
+            Refusal::TooLong => 1,
+            Refusal::NotUtf8 { .. } => 2,
+            Refusal::NoCharacter => 21,
+        }
+    }
+}
+
+fn why_not(bytes: &[u8]) -> Option<Refusal>
+    ensures { λ r. ⌜ r ≡ refusal (now (bytes .entry)) ⌝ }
+{
+    if bytes.len() > LONGEST {
+        return Some(Refusal::TooLong);
+    }
+    let at = run_end(&Utf8, bytes, 0);
+    if at < bytes.len() {
+        return Some(Refusal::NotUtf8 { at });
+    }
+    None
+}

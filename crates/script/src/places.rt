@@ -1,0 +1,50 @@
+// Places of a script: where characters begin, how long they are, and where white space ends.
+ghost use mathlib.Core.Path.{_≡_};
+ghost use Rattle.script.specs.Sequences.{sequence, runEnd};
+ghost use Rattle.script.specs.WhiteTable.{white};
+ghost use Rattle.script.specs.Places.{boundary, charLen};
+use crate::refusal::Refusal;
+use crate::script::Script;
+use crate::sequences::Table;
+use crate::sequences::Utf8;
+use crate::sequences::Utf8Sequences;
+use crate::sequences::White;
+use crate::sequences::WhiteSequences;
+use crate::sequences::run_end;
+
+impl Script<'_> {
+    // Whether a character begins at the place, or the script ends there.
+    pub fn is_boundary(&self, place: usize) -> bool
+        ensures { λ r. ⌜ r ≡ boundary (now (self .entry) .bytes .now) place ⌝ }
+    {
+        if place < self.bytes.len() {
+            !matches!(self.bytes[place], 0x80..=0xBF)
+        } else {
+            place == self.bytes.len()
+        }
+    }
+
+    // The length in bytes of the character that begins at the place.
+    pub fn char_len(&self, place: usize) -> Result<usize, Refusal>
+        ensures { λ r. ⌜ r ≡ charLen (now (self .entry) .bytes .now) place ⌝ }
+    {
+        if place >= self.bytes.len() || !self.is_boundary(place) {
+            return Err(Refusal::NoCharacter);
+        }
+        Ok(Utf8.sequence_len(self.bytes, place))
+    }
+
+    // The length in bytes of the white-space character at the place; 0 where there is none.
+    pub fn white_len(&self, place: usize) -> usize
+        ensures { λ r. ⌜ r ≡ sequence white (now (self .entry) .bytes .now) place ⌝ }
+    {
+        White.sequence_len(self.bytes, place)
+    }
+
+    // Where the white space that begins at the place ends; the place itself where there is none.
+    pub fn white_end(&self, place: usize) -> usize
+        ensures { λ r. ⌜ r ≡ runEnd white (now (self .entry) .bytes .now) place ⌝ }
+    {
+        run_end(&White, self.bytes, place)
+    }
+}
