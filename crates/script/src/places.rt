@@ -33,18 +33,18 @@ impl Script<'_> {
         }
         Ok(Utf8.sequence_len(self.bytes, place))
     }
+}
 
-    // The length in bytes of the white-space character at the place; 0 where there is none.
-    pub fn white_len(&self, place: usize) -> usize
-        ensures { λ r. ⌜ r ≡ sequence white (now (self .entry) .bytes .now) place ⌝ }
-    {
-        White.sequence_len(self.bytes, place)
-    }
+// The length in bytes of the white-space character at the place; 0 where there is none.
+pub fn white_len(bytes: &[u8], place: usize) -> usize
+    ensures { λ r. ⌜ r ≡ sequence white (now (bytes .entry)) place ⌝ }
+{
+    White.sequence_len(bytes, place)
+}
 
-    // Where the white space that begins at the place ends; the place itself where there is none.
-    pub fn white_end(&self, place: usize) -> usize
-        ensures { λ r. ⌜ r ≡ runEnd white (now (self .entry) .bytes .now) place ⌝ }
-    {
-        run_end(&White, self.bytes, place)
-    }
+// Where the white space that begins at the place ends; the place itself where there is none.
+pub fn white_end(bytes: &[u8], place: usize) -> usize
+    ensures { λ r. ⌜ r ≡ runEnd white (now (bytes .entry)) place ⌝ }
+{
+    run_end(&White, bytes, place)
 }

@@ -1,0 +1,11 @@
+use mathlib.Core.Path.{_≡_}
+use Prim.Native.Nat.{_-_, _≤_}
+use Rattle.frontmatter.specs.Searches.{pastLast}
+use Rattle.frontmatter.specs.Lines.{at}
+use Rattle.frontmatter.proofs.find.find_back.Given as given
+
+abbrev pub Inv-loop-place : given.InvT-loop-place
+Inv-loop-place l = (l .from ≤ l .place) × (l .place ≤ l .end) × (pastLast (at (l .class) (l .bytes)) (l .from) (l .place) ≡ pastLast (at (l .class) (l .bytes)) (l .from) (l .end))
+
+abbrev pub μ-loop-place : given.MeasureT-loop-place
+μ-loop-place l = l .place
