@@ -1,3 +1,5 @@
 pub mod Searches
 pub mod Lines
 pub mod Closes
+pub mod Parsed
+pub mod Parsing

@@ -3,6 +3,7 @@ ghost use mathlib.Core.Path.{_≡_};
 ghost use mathlib.Core.Bool.{true};
 ghost use Prim.Native.Nat.{ℕ, _+_, _≤_, _<_};
 ghost use lib.ListN.{length};
+ghost use Rattle.std.specs.Options.{Cases as BySome};
 ghost use Rattle.frontmatter.specs.declared.find.Class.the-variants.{LineFeed};
 ghost use Rattle.frontmatter.specs.Lines.{at, dashEnd, blankEnd, closesAt};
 ghost use Rattle.frontmatter.specs.Closes.{trialOf, closeOf};
@@ -54,7 +55,10 @@ impl Reader<'_> {
     {
         let start = self.at;
         self.at = find(self.bytes, Class::NotDash, start, self.bytes.len());
-        Span { start, end: self.at }
+        Span {
+            start,
+            end: self.at,
+        }
     }
 
     // Goes past the lines at the place that hold only white space.
@@ -79,7 +83,10 @@ impl Reader<'_> {
     {
         let bytes = self.bytes;
         let began = self.at;
-        let trial = Trial { at: &mut self.at, began };
+        let trial = Trial {
+            at: &mut self.at,
+            began,
+        };
         if most < dashes {
             return None;
         }
@@ -94,7 +101,9 @@ impl Reader<'_> {
 
     // The closing fence: with as many dashes, or else with the most dashes that any line from the place on begins with.
     pub(crate) fn find_close(&mut self, dashes: usize) -> Option<Close>
+        requires { ⌜ now self .at ≤ length (now self .bytes .now) ⌝ }
         ensures value { λ r. ⌜ r ≡ closeOf (now (self .entry) .bytes .now) (now (self .entry) .at) dashes ⌝ }
+        ensures within { λ r. ⌜ BySome r (Unit {0}) (λ c. c .at + 1 + c .dashes ≤ length (now (self .entry) .bytes .now)) ⌝ }
         ensures after { λ _. ⌜ now (self .exit) .at ≡ now (self .entry) .at ⌝ }
         ensures bytes { λ _. ⌜ now (self .exit) .bytes .now ≡ now (self .entry) .bytes .now ⌝ }
     {

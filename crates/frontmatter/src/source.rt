@@ -1,4 +1,7 @@
 // What a script's frontmatter is found to be.
+ghost use mathlib.Core.Path.{_≡_};
+ghost use Rattle.frontmatter.specs.declared.source.Failure.the-variants as failure;
+ghost use Rattle.frontmatter.specs.Parsing.{letter};
 use script::Refusal;
 use script::RefusalDebug;
 use script::RefusalEq;
@@ -45,4 +48,36 @@ pub struct Fault {
 pub enum Failure {
     Refused(Refusal),
     Faulty(Fault),
+}
+
+pub impl From<Refusal> for Failure as FailureFromRefusal {
+    ghost converts = { λ why r. r ≡ failure.Refused why };
+
+    fn from(why: Refusal) -> Failure {
+        Failure::Refused(why)
+    }
+}
+
+pub impl From<Fault> for Failure as FailureFromFault {
+    ghost converts = { λ fault r. r ≡ failure.Faulty fault };
+
+    fn from(fault: Fault) -> Failure {
+        Failure::Faulty(fault)
+    }
+}
+
+impl FaultKind {
+    // The letter by which the fault is known outside.
+    pub fn letter(self) -> char
+        ensures { λ r. ⌜ r ≡ letter self ⌝ }
+    {
+        match self {
+            FaultKind::TooFewDashes => 'A',
+            FaultKind::Unclosed => 'B',
+            FaultKind::FewerDashes => 'C',
+            FaultKind::MoreDashes => 'D',
+            FaultKind::TextAfterClose => 'E',
+            FaultKind::SecondFence => 'F',
+        }
+    }
 }

@@ -98,7 +98,7 @@ found-sequence t bs p l =
     let from : length (take p bs) ≡ p = length-take-le p bs (omega arith) in
     let place : length (take p bs) + 0 ≡ p = omega arith in
     let here : stands row (take p bs ++ (q ++ drop end bs)) (length (take p bs) + 0) ≡ true =
-        ap (λ z. stands row z (length (take p bs) + 0)) (sym (parts bs p end (omega arith))) ∙ (ap (stands row bs) place ∙ k .2) in
+    ap (λ z. stands row z (length (take p bs) + 0)) (sym (parts bs p end (omega arith))) ∙ (ap (stands row bs) place ∙ k .2) in
     (k .0, k .1, sym (stands-at row (take p bs) q (drop end bs) 0 (omega (arith, long))) ∙ here, long)
 
 between-add : (bs : List ℕ) (p q r : ℕ) → p ≤ q → q ≤ r → between p q bs ++ between q r bs ≡ between p r bs
@@ -117,13 +117,15 @@ after-joins t bs p zero = ([], tt, between-none bs p)
 after-joins t bs p (suc n) =
     ⊎-elim
     (λ (some : 0 < sequence t bs p).
-        let mid = p + sequence t bs p in
-        let rest = after-joins t bs mid n in
-        (between p mid bs ∷ rest .0, (found-sequence t bs p some, rest .1),
-        ap (λ z. between p mid bs ++ z) (rest .2) ∙ between-add bs p mid (after t n bs mid) (omega arith) (after-ge t bs mid n)))
+    let mid = p + sequence t bs p in
+    let rest = after-joins t bs mid n in (
+      between p mid bs ∷ rest .0,
+      (found-sequence t bs p some, rest .1),
+      ap (λ z. between p mid bs ++ z) (rest .2) ∙ between-add bs p mid (after t n bs mid) (omega arith) (after-ge t bs mid n),
+    ))
     (λ (none : sequence t bs p ≤ 0).
-        let stays = after-none t bs p (suc n) (omega arith) in
-        ([], tt, between-none bs p ∙ ap (λ e. between p e bs) (sym stays)))
+    let stays = after-none t bs p (suc n) (omega arith) in
+    ([], tt, between-none bs p ∙ ap (λ e. between p e bs) (sym stays)))
     (cases-lt 0 (sequence t bs p))
 
 pub run-joins : (t : List Row) (bs : List ℕ) (p : ℕ) → Sequences t (between p (runEnd t bs p) bs)

@@ -13,7 +13,6 @@ pub record Range : Type 0 where
   pub most : ℕ
 
 infixl 60 _⋯_
-
 abbrev pub _⋯_ : ℕ → ℕ → Range
 a ⋯ b = record { least = a; most = b }
 

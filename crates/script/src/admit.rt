@@ -24,8 +24,14 @@ impl<'a> Script<'a> {
         ensures judged { λ r. ⌜ Judged (now (bytes .entry)) (r .refused) ⌝ }
     {
         match why_not(bytes) {
-            None => Admission { script: Script { bytes }, refused: None },
-            Some(why) => Admission { script: Script { bytes: &[] }, refused: Some(why) },
+            None => Admission {
+                script: Script { bytes },
+                refused: None,
+            },
+            Some(why) => Admission {
+                script: Script { bytes: &[] },
+                refused: Some(why),
+            },
         }
     }
 

@@ -99,7 +99,11 @@ fn in_range(bytes: &[u8], at: usize, low: u8, high: u8) -> bool
 fn two(bytes: &[u8], next: usize, low: u8, high: u8) -> usize
     ensures { λ r. ⌜ r ≡ cond (stands ((low ⋯ high) ∷ []) (now (bytes .entry)) next) 2 0 ⌝ }
 {
-    if in_range(bytes, next, low, high) { 2 } else { 0 }
+    if in_range(bytes, next, low, high) {
+        2
+    } else {
+        0
+    }
 }
 
 fn three(bytes: &[u8], next: usize, low: u8, high: u8) -> usize

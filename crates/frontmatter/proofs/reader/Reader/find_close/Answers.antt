@@ -1,5 +1,5 @@
 use mathlib.Core.Path.{_∙_}
-use Rattle.frontmatter.proofs.Closing.{found-then, not-yet}
+use Rattle.frontmatter.proofs.Closing.{found-then, not-yet, close-within}
 use Rattle.frontmatter.proofs.reader.Reader.find_close.Needs as need
 
 pub returns-in-Some : need.returns-in-Some
@@ -8,8 +8,10 @@ returns-in-Some c =
     let now = c .loop-n .self in
     let inv = c .loop-n .inv in
     let trial = c .in-Some .ensures tt in
+    let found = found-then (was .bytes .now) (now .bytes .now) (was .at) (now .at) (c .loop-n .n) (c .args .dashes) (inv .0) (inv .1) (inv .2) (c .loop-n-test .taken) (c .in-Some .at) (trial .value) in
     record {
-      value = found-then (was .bytes .now) (now .bytes .now) (was .at) (now .at) (c .loop-n .n) (c .args .dashes) (inv .0) (inv .1) (inv .2) (c .loop-n-test .taken) (c .in-Some .at) (trial .value);
+      value = found;
+      within = close-within (was .bytes .now) (was .at) (c .args .dashes) (record { at = c .in-Some .at; dashes = c .loop-n .n }) (c .pre) found;
       after = trial .after ∙ inv .0;
       bytes = trial .bytes ∙ inv .1;
     }
