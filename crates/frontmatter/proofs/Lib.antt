@@ -1,3 +1,6 @@
 pub mod Searched
 pub mod Closing
 pub mod Stages
+pub mod Words
+pub mod Openings
+pub mod Right

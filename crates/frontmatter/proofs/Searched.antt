@@ -4,7 +4,7 @@ use mathlib.Core.Bool.{Bool, true, false, cond}
 use Prim.Native.Nat.{ℕ, zero, suc, _+_, _-_, _≤_, _<_}
 use native.Mathlib.Omega.{arith}
 use mathlib.Core.Logic.{⊎-elim}
-use Rattle.std.proofs.shelf.Tests.{cond-true, cond-false, cases-eq, cases-lt}
+use Rattle.std.proofs.shelf.Tests.{cond-true, cond-false, cases-eq, cases-lt, cases-order, both-ways}
 use Rattle.frontmatter.specs.Searches.{seek, seekBack, first, pastLast}
 
 pub first-none : (t : ℕ → Bool) (p e : ℕ) → e ≤ p → first t p e ≡ p
@@ -83,3 +83,64 @@ module _ (t : ℕ → Bool) where
       (λ (found : first t p e < e). absurd (none (first t p e) (first-low p e) found (first-hit p e (omega (arith, first-low p e)) found)))
       (λ (end : e ≤ first t p e). end)
       (cases-lt (first t p e) e)
+
+  -- and it is the only such place
+  pub first-unique : (p e q : ℕ) → p ≤ q → q ≤ e → ((k : ℕ) → p ≤ k → k < q → t k ≡ true → ⊥) → (q < e → t q ≡ true) → q ≡ first t p e
+  first-unique p e q l h before hit =
+      let f = first t p e in
+      ⊎-elim
+      (λ (same : q ≡ f). same)
+      (⊎-elim
+      (λ (less : q < f). absurd (both-ways (t q) (first-before p e q l less) (hit (omega (arith, first-high p e (omega arith))))))
+      (λ (more : f < q). absurd (before f (first-low p e) more (first-hit p e (omega arith) (omega arith)))))
+      (cases-order q f)
+
+  -- the place after the last one: within bounds, the one before it passes unless it is the start, and no later one passes
+  last-bounds-step : (p n : ℕ) (b : Bool) → (p ≤ seekBack t p n) × (seekBack t p n ≤ p + n) → (p ≤ cond b (p + n + 1) (seekBack t p n)) × (cond b (p + n + 1) (seekBack t p n) ≤ p + suc n)
+  last-bounds-step p n true ih = (omega arith, omega arith)
+  last-bounds-step p n false ih = (omega arith, omega arith)
+
+  back-bounds : (p n : ℕ) → (p ≤ seekBack t p n) × (seekBack t p n ≤ p + n)
+  back-bounds p zero = (omega arith, omega arith)
+  back-bounds p (suc n) = last-bounds-step p n (t (p + n)) (back-bounds p n)
+
+  back-hit-step : (p n : ℕ) (b : Bool) → t (p + n) ≡ b → (p < seekBack t p n → t (seekBack t p n - 1) ≡ true) → p < cond b (p + n + 1) (seekBack t p n) → t (cond b (p + n + 1) (seekBack t p n) - 1) ≡ true
+  back-hit-step p n true e ih l = let same : p + n + 1 - 1 ≡ p + n = omega arith in ap t same ∙ e
+  back-hit-step p n false e ih l = ih l
+
+  back-hit : (p n : ℕ) → p < seekBack t p n → t (seekBack t p n - 1) ≡ true
+  back-hit p zero l = absurd (omega arith)
+  back-hit p (suc n) l = back-hit-step p n (t (p + n)) refl (back-hit p n) l
+
+  back-after-step : (p n k : ℕ) (b : Bool) → t (p + n) ≡ b → (seekBack t p n ≤ k → k < p + n → t k ≡ false) → cond b (p + n + 1) (seekBack t p n) ≤ k → k < p + suc n → t k ≡ false
+  back-after-step p n k true e ih l h = absurd (omega arith)
+  back-after-step p n k false e ih l h =
+      ⊎-elim (λ (same : k ≡ p + n). ap t same ∙ e) (λ (other : k ≡ p + n → ⊥). ih l (omega (arith, other))) (cases-eq k (p + n))
+
+  back-after : (p n k : ℕ) → seekBack t p n ≤ k → k < p + n → t k ≡ false
+  back-after p zero k l h = absurd (omega arith)
+  back-after p (suc n) k l h = back-after-step p n k (t (p + n)) refl (back-after p n k) l h
+
+  pub last-low : (p e : ℕ) → p ≤ pastLast t p e
+  last-low p e = back-bounds p (e - p) .0
+
+  pub last-high : (p e : ℕ) → p ≤ e → pastLast t p e ≤ e
+  last-high p e l = omega (arith, back-bounds p (e - p) .1)
+
+  pub last-hit : (p e : ℕ) → p < pastLast t p e → t (pastLast t p e - 1) ≡ true
+  last-hit p e l = back-hit p (e - p) l
+
+  pub last-after : (p e k : ℕ) → p ≤ e → pastLast t p e ≤ k → k < e → t k ≡ false
+  last-after p e k h l m = back-after p (e - p) k l (omega arith)
+
+  pub last-unique : (p e q : ℕ) → p ≤ q → q ≤ e → (p < q → t (q - 1) ≡ true) → ((k : ℕ) → q ≤ k → k < e → t k ≡ true → ⊥) → q ≡ pastLast t p e
+  last-unique p e q l h hit after =
+      let f = pastLast t p e in
+      let low = last-low p e in
+      let high = last-high p e (omega arith) in
+      ⊎-elim
+      (λ (same : q ≡ f). same)
+      (⊎-elim
+      (λ (less : q < f). absurd (after (f - 1) (omega arith) (omega arith) (last-hit p e (omega arith))))
+      (λ (more : f < q). absurd (both-ways (t (q - 1)) (last-after p e (q - 1) (omega arith) (omega arith) (omega arith)) (hit (omega arith)))))
+      (cases-order q f)

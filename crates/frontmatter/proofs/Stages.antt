@@ -14,7 +14,7 @@ use Rattle.frontmatter.specs.declared.source.FaultKind.the-variants.{TooFewDas
 use Rattle.frontmatter.specs.Lines.{dashEnd, blankEnd}
 use Rattle.frontmatter.specs.Parsed.{Answer, span, fault, shebang, bodyStart, plain, opened, opening, parsed}
 
-reads-on : (s : List ℕ) (sh : Option Span) (body : ℕ) (f : Span) → 3 ≤ f .end - f .start → opening s sh body f ≡ opened s sh f
+pub reads-on : (s : List ℕ) (sh : Option Span) (body : ℕ) (f : Span) → 3 ≤ f .end - f .start → opening s sh body f ≡ opened s sh f
 reads-on s sh body f l =
     cond-false (eqb (f .end - f .start) 0) (plain s sh body) (cond (ltb (f .end - f .start) 3) (fault TooFewDashes (span (length s) (length s)) f None) (opened s sh f)) (ne-eqb (f .end - f .start) 0 (λ e. omega arith))
     ∙ cond-false (ltb (f .end - f .start) 3) (fault TooFewDashes (span (length s) (length s)) f None) (opened s sh f) (le-ltb (f .end - f .start) 3 l)
