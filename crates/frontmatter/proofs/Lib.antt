@@ -4,3 +4,4 @@ pub mod Stages
 pub mod Words
 pub mod Openings
 pub mod Right
+pub mod Parses

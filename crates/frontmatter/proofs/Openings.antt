@@ -73,8 +73,8 @@ shebang-none : (s : List ℕ) → (HashBang s → Attribute s) → isShebang s �
 shebang-none s h =
     ⊎-elim
     (λ (e : isShebang s ≡ true).
-        let both = and-parts (hash-bang s) (not (bracket s)) e in
-        absurd (both-ways (bracket s) (not-true (bracket s) (both .1)) (bracket-only s (h (hash-is s (both .0))))))
+    let both = and-parts (hash-bang s) (not (bracket s)) e in
+    absurd (both-ways (bracket s) (not-true (bracket s) (both .1)) (bracket-only s (h (hash-is s (both .0))))))
     (λ (e : isShebang s ≡ false). e)
     (cases-bool (isShebang s))
 

@@ -80,13 +80,13 @@ after-only s p t d =
     let low = d .line .low in
     ⊎-elim
     (λ h.
-        let cr = cr-only s p (d .end) (d .text-end) (h .1) ∙ ap (withoutCr s p) l in
-        text-only s p (d .text-end) t (cr-within s p (d .end) (d .text-end) low (h .1) .0) (d .text-is)
-        ∙ (ap (text s p) cr ∙ ap (text s p) (sym (cond-true (ltb (lineEnd s p) (length s)) (withoutCr s p (lineEnd s p)) (lineEnd s p) (lt-ltb (lineEnd s p) (length s) (omega (arith, l, h .0)))))))
+    let cr = cr-only s p (d .end) (d .text-end) (h .1) ∙ ap (withoutCr s p) l in
+    text-only s p (d .text-end) t (cr-within s p (d .end) (d .text-end) low (h .1) .0) (d .text-is)
+    ∙ (ap (text s p) cr ∙ ap (text s p) (sym (cond-true (ltb (lineEnd s p) (length s)) (withoutCr s p (lineEnd s p)) (lineEnd s p) (lt-ltb (lineEnd s p) (length s) (omega (arith, l, h .0)))))))
     (λ h.
-        let e : d .text-end ≡ lineEnd s p = h .1 ∙ l in
-        text-only s p (d .text-end) t (omega (arith, low, h .1)) (d .text-is)
-        ∙ (ap (text s p) e ∙ ap (text s p) (sym (cond-false (ltb (lineEnd s p) (length s)) (withoutCr s p (lineEnd s p)) (lineEnd s p) (le-ltb (lineEnd s p) (length s) (omega (arith, l, h .0)))))))
+    let e : d .text-end ≡ lineEnd s p = h .1 ∙ l in
+    text-only s p (d .text-end) t (omega (arith, low, h .1)) (d .text-is)
+    ∙ (ap (text s p) e ∙ ap (text s p) (sym (cond-false (ltb (lineEnd s p) (length s)) (withoutCr s p (lineEnd s p)) (lineEnd s p) (le-ltb (lineEnd s p) (length s) (omega (arith, l, h .0)))))))
     (d .less)
 
 -- a closing fence lies within the script
@@ -121,8 +121,8 @@ closed-sound s o close line fence =
     cond-both (ltb p (dashEnd s p)) (fault MoreDashes (span p (dashEnd s p)) (o .fence) None) (closeLine s o close (closeText s p)) (Reads s)
     (λ e. (o, close, dashEnd s p, line, fence, dashes, ltb-true p (dashEnd s p) e, refl))
     (λ e.
-        let same : dashEnd s p ≡ p = omega (arith, ltb-false p (dashEnd s p) e, dashes .low) in
-        close-line-sound s o close (closeText s p) (record { opening = line; closing = fence; as-many = λ h. dashes .all (subst (λ k. Byte s k 0x2D) (sym same) h); after = after-is s p high }))
+    let same : dashEnd s p ≡ p = omega (arith, ltb-false p (dashEnd s p) e, dashes .low) in
+    close-line-sound s o close (closeText s p) (record { opening = line; closing = fence; as-many = λ h. dashes .all (subst (λ k. Byte s k 0x2D) (sym same) h); after = after-is s p high }))
 
 closing-sound : (s : List ℕ) (o : Opening) → OpeningLine s o → (c : Option Close) → Tried s (o .end) (size (o .fence)) c → Reads s (closing s o c)
 closing-sound s o line None t =
@@ -133,12 +133,12 @@ closing-sound s o line (Some c) t =
     let first : FirstLine s (c .dashes) (o .end) (c .at) = subst (FirstLine s (c .dashes) (o .end)) (sym (t .place)) (first-line-is s (c .dashes) (o .end) (omega arith) (t .found)) in
     cond-both (ltb (c .dashes) n) (fault FewerDashes (span (c .at + 1) (c .at + 1 + c .dashes)) (o .fence) None) (closed s o (span (c .at + 1) (c .at + 1 + c .dashes))) (Reads s)
     (λ e.
-        let fewer = ltb-true (c .dashes) n e in
-        (o, c .dashes, c .at, line, t .some, fewer, first, no-line-is s (c .dashes + 1) (o .end) (t .no-more (c .dashes + 1) (omega arith) (omega arith)), refl))
+    let fewer = ltb-true (c .dashes) n e in
+    (o, c .dashes, c .at, line, t .some, fewer, first, no-line-is s (c .dashes + 1) (o .end) (t .no-more (c .dashes + 1) (omega arith) (omega arith)), refl))
     (λ e.
-        let same : c .dashes ≡ n = omega (arith, t .most, ltb-false (c .dashes) n e) in
-        closed-sound s o (span (c .at + 1) (c .at + 1 + c .dashes)) line
-        (record { place = c .at; first = subst (λ m. FirstLine s m (o .end) (c .at)) same first; is = ap (λ m. span (c .at + 1) (c .at + 1 + m)) same }))
+    let same : c .dashes ≡ n = omega (arith, t .most, ltb-false (c .dashes) n e) in
+    closed-sound s o (span (c .at + 1) (c .at + 1 + c .dashes)) line
+    (record { place = c .at; first = subst (λ m. FirstLine s m (o .end) (c .at)) same first; is = ap (λ m. span (c .at + 1) (c .at + 1 + m)) same }))
 
 opened-sound : (s : List ℕ) (sh : Option Span) (body : ℕ) (f : Span) → Opens s sh body f → 3 ≤ size f → Reads s (opened s sh f)
 opened-sound s sh body f d three =
@@ -153,9 +153,9 @@ opening-sound s sh body f d =
     cond-both (eqb (size f) 0) (plain s sh body) (cond (ltb (size f) 3) (fault TooFewDashes (atEnd s) f None) (opened s sh f)) (Reads s)
     (λ e. inl (body, f, d, omega (arith, eqb-true (size f) 0 e, d .dashes .low), refl))
     (λ e.
-        cond-both (ltb (size f) 3) (fault TooFewDashes (atEnd s) f None) (opened s sh f) (Reads s)
-        (λ few. (sh, body, f, d, omega (arith, eqb-false (size f) 0 e), ltb-true (size f) 3 few, refl))
-        (λ many. opened-sound s sh body f d (ltb-false (size f) 3 many)))
+    cond-both (ltb (size f) 3) (fault TooFewDashes (atEnd s) f None) (opened s sh f) (Reads s)
+    (λ few. (sh, body, f, d, omega (arith, eqb-false (size f) 0 e), ltb-true (size f) 3 few, refl))
+    (λ many. opened-sound s sh body f d (ltb-false (size f) 3 many)))
 
 pub sound : (s : List ℕ) → Reads s (parsed s)
 sound s = opening-sound s (shebang s) (bodyStart s) (fenceOf s) (opens-is s)
@@ -183,9 +183,10 @@ close-line-only s o close t d =
 content-only : (s : List ℕ) (o : Opening) (close : Span) (z : ℕ) (second : Span) → Closed s o close None → Content s close z second → (parsed s ≡ content s o close z) × (second ≡ span (blankEnd s z) (dashEnd s (blankEnd s z)))
 content-only s o close z second d c =
     let start = blank-only s z (second .start) (c .blank) in
-    let end = dashes-only s (second .start) (second .end) (c .dashes) ∙ ap (dashEnd s) start in
-    (close-line-only s o close None d ∙ ap (content s o close) (sym (next-only s (close .end) z (c .next))),
-    ap (λ x. span x (second .end)) start ∙ ap (span (blankEnd s z)) end)
+    let end = dashes-only s (second .start) (second .end) (c .dashes) ∙ ap (dashEnd s) start in (
+      close-line-only s o close None d ∙ ap (content s o close) (sym (next-only s (close .end) z (c .next))),
+      ap (λ x. span x (second .end)) start ∙ ap (span (blankEnd s z)) end,
+    )
 
 plain-only : (s : List ℕ) (r : ScriptSource) → Plain s r → Ok r ≡ parsed s
 plain-only s r d =
@@ -222,14 +223,14 @@ most-found s p n m k (Some c) t some most l first no-more =
     let inside = first .begins .feed .0 in
     let found = first-line-is s (c .dashes) p l (t .found) in
     let same : c .dashes ≡ m =
-        ⊎-elim
-        (λ (less : c .dashes < m). absurd (omega (arith, t .no-more m less most, is, inside)))
-        (λ (more : m ≤ c .dashes).
-            ⊎-elim
-            (λ (too-many : m < c .dashes). absurd (no-more (closeFrom s (c .dashes) p) (found .low) (begins-fewer s (m + 1) (c .dashes) (closeFrom s (c .dashes) p) (omega arith) (found .begins))))
-            (λ (enough : c .dashes ≤ m). omega arith)
-            (cases-lt m (c .dashes)))
-        (cases-lt (c .dashes) m) in
+    ⊎-elim
+    (λ (less : c .dashes < m). absurd (omega (arith, t .no-more m less most, is, inside)))
+    (λ (more : m ≤ c .dashes).
+    ⊎-elim
+    (λ (too-many : m < c .dashes). absurd (no-more (closeFrom s (c .dashes) p) (found .low) (begins-fewer s (m + 1) (c .dashes) (closeFrom s (c .dashes) p) (omega arith) (found .begins))))
+    (λ (enough : c .dashes ≤ m). omega arith)
+    (cases-lt m (c .dashes)))
+    (cases-lt (c .dashes) m) in
     let place : c .at ≡ k = t .place ∙ (ap (λ x. closeFrom s x p) same ∙ sym is) in
     ap (λ (x : ℕ). Some (record { at = x; dashes = c .dashes })) place ∙ ap (λ (x : ℕ). Some (record { at = k; dashes = x })) same
 

@@ -148,10 +148,10 @@ begins-only s n k d =
     let run = dashes-are s (k + 1) (omega (arith, d .room)) in
     let e = dashEnd s (k + 1) in
     let far : k + 1 + n ≤ e =
-        ⊎-elim
-        (λ (short : e < k + 1 + n). absurd (run .all (omega (arith, d .room), d .dashes e (run .low) short)))
-        (λ (long : k + 1 + n ≤ e). long)
-        (cases-lt e (k + 1 + n)) in
+    ⊎-elim
+    (λ (short : e < k + 1 + n). absurd (run .all (omega (arith, d .room), d .dashes e (run .low) short)))
+    (λ (long : k + 1 + n ≤ e). long)
+    (cases-lt e (k + 1 + n)) in
     and-from (at LineFeed s k) (leb (k + 1 + n) e) (eq-eqb (getD s k 0) 0x0A (d .feed .1)) (le-leb (k + 1 + n) e far)
 
 pub first-line-is : (s : List ℕ) (n l : ℕ) → l ≤ length s → closeFrom s n l < length s → FirstLine s n l (closeFrom s n l)
@@ -192,21 +192,24 @@ text-by s p e true l t =
     let z = pastLast (at NotBlank s) p e in
     let some = ltb-true a z t in
     let a-low = first-low (at NotBlank s) p e in
-    let z-high = last-high (at NotBlank s) p e l in
-    (a-low, some, z-high,
-    (λ k x y. is-blank (getD s k 0) (first-before (at NotBlank s) p e k x y)),
-    (λ k x y. is-blank (getD s k 0) (last-after (at NotBlank s) p e k l x y)),
-    no-blank (getD s a 0) (first-hit (at NotBlank s) p e l (omega arith)),
-    no-blank (getD s (z - 1) 0) (last-hit (at NotBlank s) p e (omega arith)))
+    let z-high = last-high (at NotBlank s) p e l in (
+      a-low,
+      some,
+      z-high,
+      (λ k x y. is-blank (getD s k 0) (first-before (at NotBlank s) p e k x y)),
+      (λ k x y. is-blank (getD s k 0) (last-after (at NotBlank s) p e k l x y)),
+      no-blank (getD s a 0) (first-hit (at NotBlank s) p e l (omega arith)),
+      no-blank (getD s (z - 1) 0) (last-hit (at NotBlank s) p e (omega arith)),
+    )
 text-by s p e false l t =
     λ k x y.
-        let a = first (at NotBlank s) p e in
-        let z = pastLast (at NotBlank s) p e in
-        let none = ltb-false a z t in
-        ⊎-elim
-        (λ (before : k < a). is-blank (getD s k 0) (first-before (at NotBlank s) p e k x before))
-        (λ (after : a ≤ k). is-blank (getD s k 0) (last-after (at NotBlank s) p e k l (omega arith) y))
-        (cases-lt k a)
+    let a = first (at NotBlank s) p e in
+    let z = pastLast (at NotBlank s) p e in
+    let none = ltb-false a z t in
+    ⊎-elim
+    (λ (before : k < a). is-blank (getD s k 0) (first-before (at NotBlank s) p e k x before))
+    (λ (after : a ≤ k). is-blank (getD s k 0) (last-after (at NotBlank s) p e k l (omega arith) y))
+    (cases-lt k a)
 
 pub text-is : (s : List ℕ) (p e : ℕ) → p ≤ e → Text s p e (text s p e)
 text-is s p e l = text-by s p e (ltb (first (at NotBlank s) p e) (pastLast (at NotBlank s) p e)) l refl

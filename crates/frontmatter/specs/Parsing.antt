@@ -5,7 +5,7 @@ use Rattle.std.specs.declared.option.Option.{Option}
 use Rattle.std.specs.declared.option.Option.the-variants.{Some, None}
 use Rattle.std.specs.declared.result.Result.{Result}
 use Rattle.std.specs.declared.result.Result.the-variants.{Ok, Err}
-use Rattle.script.specs.Admission.{refusal}
+use Rattle.script.specs.Admission.{refusal, Judged}
 use Rattle.script.specs.declared.refusal.Refusal.{Refusal}
 use Rattle.frontmatter.specs.declared.source.ScriptSource.{ScriptSource}
 use Rattle.frontmatter.specs.declared.source.FaultKind.{FaultKind}
@@ -13,6 +13,7 @@ use Rattle.frontmatter.specs.declared.source.FaultKind.the-variants.{TooFewDas
 use Rattle.frontmatter.specs.declared.source.Failure.{Failure}
 use Rattle.frontmatter.specs.declared.source.Failure.the-variants.{Refused, Faulty}
 use Rattle.frontmatter.specs.Parsed.{Answer, parsed}
+use Rattle.frontmatter.specs.Reads.{Reads}
 
 abbrev pub read : Answer → Result ScriptSource Failure
 read (Ok source) = Ok source
@@ -33,3 +34,9 @@ letter FewerDashes = 0x43
 letter MoreDashes = 0x44
 letter TextAfterClose = 0x45
 letter SecondFence = 0x46
+
+-- the answer is right of the bytes: refused where they are no script, else as the relation has it
+abbrev pub Parses : List ℕ → Result ScriptSource Failure → Type 0
+Parses bs (Ok source) = Judged bs None × Reads bs (Ok source)
+Parses bs (Err (Refused why)) = Judged bs (Some why)
+Parses bs (Err (Faulty f)) = Judged bs None × Reads bs (Err f)

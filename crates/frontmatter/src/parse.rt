@@ -2,10 +2,12 @@
 ghost use mathlib.Core.Path.{_≡_};
 ghost use Prim.Native.Nat.{_+_, _≤_, _<_};
 ghost use lib.ListN.{length};
+ghost use Rattle.std.specs.declared.result.Result.{Result};
 ghost use Rattle.std.specs.declared.result.Result.the-variants.{Err};
 ghost use Rattle.frontmatter.specs.Lines.{lineEnd, nextLine, withoutCr};
-ghost use Rattle.frontmatter.specs.Parsing.{parsing};
-ghost use Rattle.frontmatter.specs.Parsed.{isShebang, shebang, bodyStart, text, closeText, content, closed, unclosed, opened, parsed};
+ghost use Rattle.frontmatter.specs.Parsing.{parsing, Parses};
+ghost use Rattle.frontmatter.specs.Reads.{Reads};
+ghost use Rattle.frontmatter.specs.Parsed.{Answer, span, isShebang, shebang, bodyStart, text, closeText, content, closed, unclosed, opened, parsed};
 use crate::find::Class;
 use crate::find::find;
 use crate::find::find_back;
@@ -218,13 +220,9 @@ fn read_fenced(
 fn unclosed_fault(bytes: &[u8], fence: Span) -> Fault
     ensures { λ r. ⌜ Err r ≡ unclosed (now (bytes .entry)) fence ⌝ }
 {
-    let end = Span {
-        start: bytes.len(),
-        end: bytes.len(),
-    };
     Fault {
         kind: FaultKind::Unclosed,
-        primary: end,
+        primary: at_end(bytes),
         open: fence,
         close: None,
     }
@@ -233,48 +231,67 @@ fn unclosed_fault(bytes: &[u8], fence: Span) -> Fault
 impl ScriptSource {
     // The parts of the script that the bytes are.
     pub fn parse(bytes: &[u8]) -> Result<ScriptSource, Failure>
-        ensures { λ r. ⌜ r ≡ parsing (now (bytes .entry)) ⌝ }
+        ensures value { λ r. ⌜ r ≡ parsing (now (bytes .entry)) ⌝ }
+        ensures parses { λ r. ⌜ Parses (now (bytes .entry)) r ⌝ }
+        ensures only { λ r. ⌜ ((a : Result ScriptSource Failure) → Parses (now (bytes .entry)) a → a ≡ r) ⌝ }
     {
-        let admission = Script::admit(bytes);
-        admission.checked()?;
-        Ok(ScriptSource::of_script(&admission.script)?)
+        read_bytes(bytes)
     }
 
     // The parts of an admitted script.
     pub fn of_script(script: &Script) -> Result<ScriptSource, Fault>
-        ensures { λ r. ⌜ r ≡ parsed (now (script .entry) .bytes .now) ⌝ }
+        ensures value { λ r. ⌜ r ≡ parsed (now (script .entry) .bytes .now) ⌝ }
+        ensures reads { λ r. ⌜ Reads (now (script .entry) .bytes .now) r ⌝ }
+        ensures only { λ r. ⌜ ((a : Answer) → Reads (now (script .entry) .bytes .now) a → a ≡ r) ⌝ }
     {
-        let bytes = script.bytes();
-        let mut reader = Reader { bytes, at: 0 };
-        let shebang = read_shebang(&mut reader);
-        let content = Span {
-            start: reader.at,
-            end: bytes.len(),
-        };
-        reader.skip_blank_lines();
-        let fence = reader.dashes();
-        match fence.end - fence.start {
-            0 => Ok(ScriptSource {
-                shebang,
-                open: None,
-                info: None,
-                frontmatter: None,
-                close: None,
-                content,
-            }),
-            1 | 2 => {
-                let end = Span {
-                    start: bytes.len(),
-                    end: bytes.len(),
-                };
-                Err(Fault {
-                    kind: FaultKind::TooFewDashes,
-                    primary: end,
-                    open: fence,
-                    close: None,
-                })
-            }
-            _ => read_fenced(&mut reader, shebang, fence),
-        }
+        read_script(script.bytes())
+    }
+}
+
+fn read_bytes(bytes: &[u8]) -> Result<ScriptSource, Failure>
+    ensures { λ r. ⌜ r ≡ parsing (now (bytes .entry)) ⌝ }
+{
+    let admission = Script::admit(bytes);
+    admission.checked()?;
+    Ok(read_script(admission.script.bytes())?)
+}
+
+fn read_script(bytes: &[u8]) -> Result<ScriptSource, Fault>
+    ensures { λ r. ⌜ r ≡ parsed (now (bytes .entry)) ⌝ }
+{
+    let mut reader = Reader { bytes, at: 0 };
+    let shebang = read_shebang(&mut reader);
+    let content = Span {
+        start: reader.at,
+        end: bytes.len(),
+    };
+    reader.skip_blank_lines();
+    let fence = reader.dashes();
+    match fence.end - fence.start {
+        0 => Ok(ScriptSource {
+            shebang,
+            open: None,
+            info: None,
+            frontmatter: None,
+            close: None,
+            content,
+        }),
+        1 | 2 => Err(Fault {
+            kind: FaultKind::TooFewDashes,
+            primary: at_end(bytes),
+            open: fence,
+            close: None,
+        }),
+        _ => read_fenced(&mut reader, shebang, fence),
+    }
+}
+
+// The empty span at the script's end.
+fn at_end(bytes: &[u8]) -> Span
+    ensures { λ r. ⌜ r ≡ span (length (now (bytes .entry))) (length (now (bytes .entry))) ⌝ }
+{
+    Span {
+        start: bytes.len(),
+        end: bytes.len(),
     }
 }

@@ -11,9 +11,9 @@ use Rattle.std.specs.Holes.{between}
 use Rattle.std.specs.Options.{isSome}
 use Rattle.std.specs.declared.option.Option.{Option}
 use Rattle.std.specs.declared.option.Option.the-variants.{Some, None}
-use Rattle.std.proofs.shelf.Tests.{leb-true, leb-false, eqb-true, eqb-false}
+use Rattle.std.proofs.shelf.Tests.{leb-true, leb-false, eqb-true, eqb-false, le-leb, lt-leb, eq-eqb, ne-eqb, cond-true, cond-false}
 use Rattle.script.specs.declared.refusal.Refusal.{Refusal}
-use Rattle.script.specs.declared.refusal.Refusal.the-variants.{TooLong, NotUtf8}
+use Rattle.script.specs.declared.refusal.Refusal.the-variants.{TooLong, NotUtf8, NoCharacter}
 use Rattle.script.specs.Sequences.{Sequences}
 use Rattle.script.specs.Utf8Table.{utf8, WellFormed, Longest}
 use Rattle.script.specs.Admission.{most, illFormed, refusal, admitted, Judged}
@@ -40,6 +40,24 @@ judged-by bs true false s w =
 
 pub judged : (bs : List ℕ) → Judged bs (refusal bs)
 judged bs = judged-by bs (leb (length bs) most) (eqb (illFormed bs) (length bs)) refl refl
+
+-- and no other answer stands
+pub judged-only : (bs : List ℕ) (o : Option Refusal) → Judged bs o → o ≡ refusal bs
+judged-only bs None j =
+    let all : length bs ≤ illFormed bs = longest bs .longest (length bs) (omega arith) (subst WellFormed (sym (take-length bs)) (j .1)) in
+    let same : illFormed bs ≡ length bs = omega (arith, longest bs .within) in
+    sym (cond-true (leb (length bs) most) (cond (eqb (illFormed bs) (length bs)) None (Some (NotUtf8 (illFormed bs)))) (Some TooLong) (le-leb (length bs) most (j .0))
+    ∙ cond-true (eqb (illFormed bs) (length bs)) None (Some (NotUtf8 (illFormed bs))) (eq-eqb (illFormed bs) (length bs) same))
+judged-only bs (Some TooLong) j =
+    sym (cond-false (leb (length bs) most) (cond (eqb (illFormed bs) (length bs)) None (Some (NotUtf8 (illFormed bs)))) (Some TooLong) (lt-leb (length bs) most j))
+judged-only bs (Some (NotUtf8 at)) j =
+    let mine = longest bs in
+    let front = j .2 in
+    let same : at ≡ illFormed bs = omega (arith, mine .longest at (front .within) (front .front), front .longest (illFormed bs) (mine .within) (mine .front)) in
+    ap (λ (k : ℕ). Some (NotUtf8 k)) same
+    ∙ sym (cond-true (leb (length bs) most) (cond (eqb (illFormed bs) (length bs)) None (Some (NotUtf8 (illFormed bs)))) (Some TooLong) (le-leb (length bs) most (j .0))
+    ∙ cond-false (eqb (illFormed bs) (length bs)) None (Some (NotUtf8 (illFormed bs))) (ne-eqb (illFormed bs) (length bs) (λ e. omega (arith, j .1))))
+judged-only bs (Some NoCharacter) j = absurd j
 
 -- what is refused, and what is not, shows in the script that is admitted
 kept-by : (bs : List ℕ) (short whole : Bool) (o : Option Refusal) → o ≡ cond short (cond whole None (Some (NotUtf8 (illFormed bs)))) (Some TooLong) → cond (short && whole) bs [] ≡ cond (isSome o) [] bs

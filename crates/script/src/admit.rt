@@ -4,8 +4,9 @@ ghost use mathlib.Core.List.{List};
 ghost use mathlib.Core.Bool.{true};
 ghost use Prim.Native.Nat.{ℕ};
 ghost use Rattle.std.specs.Results.{Cases};
+ghost use Rattle.std.specs.declared.option.Option.{Option};
 ghost use Rattle.std.specs.declared.option.Option.the-variants.{Some, None};
-ghost use Rattle.script.specs.Admission.{refusal, admitted, admits, number, values, Judged};
+ghost use Rattle.script.specs.Admission.{refusal, admitted, number, Judged};
 use crate::refusal::Refusal;
 use crate::script::Admission;
 use crate::script::Script;
@@ -22,6 +23,7 @@ impl<'a> Script<'a> {
         ensures refused { λ r. ⌜ r .refused ≡ refusal (now (bytes .entry)) ⌝ }
         ensures script { λ r. ⌜ r .script .bytes .now ≡ admitted (now (bytes .entry)) ⌝ }
         ensures judged { λ r. ⌜ Judged (now (bytes .entry)) (r .refused) ⌝ }
+        ensures only { λ r. ⌜ ((o : Option Refusal) → Judged (now (bytes .entry)) o → o ≡ r .refused) ⌝ }
     {
         match why_not(bytes) {
             None => Admission {

@@ -1,25 +1,11 @@
-use mathlib.Core.Path.{sym, ap, _∙_}
-use mathlib.Core.List.{List}
-use Prim.Native.Nat.{ℕ}
-use native.Mathlib.Omega.{arith}
-use Rattle.frontmatter.specs.Lines.{dashEnd, blankEnd}
-use Rattle.frontmatter.specs.Parsed.{shebang, bodyStart}
-use Rattle.frontmatter.proofs.Stages.{whole}
+use mathlib.Core.Path.{sym, ap, subst, _∙_}
+use Rattle.frontmatter.specs.Parsed.{parsed}
+use Rattle.frontmatter.specs.Reads.{Reads}
+use Rattle.frontmatter.proofs.Right.{sound, only}
 use Rattle.frontmatter.proofs.source.ScriptSource.of_script.Needs as need
 
-pub returns-in-rest : need.returns-in-rest
-returns-in-rest c =
+pub returns : need.returns
+returns c =
     let s = c .args .script .now .bytes .now in
-    let given = c .bytes-bytes .ensures in
-    let first = c .read-shebang-shebang .ensures in
-    let skip = c .skip-blank-lines .ensures in
-    let dashes = c .dashes-fence .ensures in
-    let same1 = first .bytes ∙ given in
-    let same2 = skip .bytes ∙ same1 in
-    whole s (c .dashes-fence .last .self .bytes .now) (c .read-shebang-shebang .result) (c .dashes-fence .result) (c .read-fenced .result)
-    (dashes .bytes ∙ same2)
-    (first .value ∙ ap shebang given)
-    (dashes .start ∙ (skip .after ∙ (ap (λ (z : List ℕ). blankEnd z (c .read-shebang-shebang .last .reader .at)) same1 ∙ ap (blankEnd s) (first .after ∙ ap bodyStart given))))
-    (dashes .end ∙ (ap (λ (z : List ℕ). dashEnd z (c .skip-blank-lines .last .self .at)) same2 ∙ ap (dashEnd s) (sym (dashes .start))))
-    (omega arith)
-    (c .read-fenced .ensures)
+    let value = c .read-script .ensures ∙ ap parsed (c .bytes .ensures) in
+    record { value = value; reads = subst (Reads s) (sym value) (sound s); only = λ a d. only s a d ∙ sym value }
