@@ -1,0 +1,18 @@
+// Examples: evaluated from the definitions in one theorem, and run as tests.
+ghost use mathlib.Core.Path.{_≡_};
+ghost use Rattle.cases.specs.Examples.{Examples};
+
+// The number of examples that the definitions give by evaluation.
+pub fn evaluated() -> u8
+    ensures count { λ r. ⌜ r ≡ 5 ⌝ }
+    ensures examples { λ _. ⌜ Examples ⌝ }
+{
+    5
+}
+
+#[cfg(test)]
+mod frontmatter_tests;
+#[cfg(test)]
+mod kind_tests;
+#[cfg(test)]
+mod script_tests;
