@@ -7,14 +7,13 @@ use Prim.Native.Nat.{ℕ, _+_, _-_, _≤_, _<_, min}
 use native.Mathlib.Omega.{arith}
 use lib.Dec.{leb, ltb, eqb}
 use lib.ListN.{length, getD}
-use Rattle.std.specs.Holes.{between}
 use Rattle.std.specs.declared.option.Option.{Option}
 use Rattle.std.specs.declared.option.Option.the-variants.{Some, None}
 use Rattle.std.proofs.shelf.Tests.{eqb-true, eqb-false, eq-eqb, ne-eqb, not-true, not-false, not-from-true, not-from-false, or-cases, or-parts, or-left, or-right, or-from, and-parts, and-from, leb-true, le-leb, cases-lt, cases-bool, both-ways, ltb-true, lt-ltb, le-ltb, ltb-false, cond-true, cond-false}
-use Rattle.script.specs.Sequences.{runEnd, Sequences}
+use Rattle.script.specs.Sequences.{runEnd}
 use Rattle.script.specs.WhiteTable.{white}
 use Rattle.script.proofs.Runs.{after-ge}
-use Rattle.script.proofs.Joins.{run-joins, run-le, run-longest, run-past}
+use Rattle.script.proofs.Joins.{run-is, run-only}
 use Rattle.script.proofs.Tables.{white-fair}
 use Rattle.frontmatter.specs.declared.find.Class.{Class}
 use Rattle.frontmatter.specs.declared.find.Class.the-variants.{LineFeed, NotDash, NotBlank}
@@ -93,22 +92,10 @@ next-only s p z n =
 
 -- white space and blank lines
 pub white-is : (s : List ℕ) (p : ℕ) → p ≤ length s → WhiteSpace s p (runEnd white s p)
-white-is s p l = record {
-  low = after-ge white s p (length s);
-  high = run-le white s p l;
-  white-there = run-joins white s p;
-  all = λ v more high there. omega (arith, run-longest white white-fair s p v (omega (arith, after-ge white s p (length s))) high there);
-}
+white-is s p l = run-is white white-fair s p l
 
 pub white-only : (s : List ℕ) (p w : ℕ) → WhiteSpace s p w → w ≡ runEnd white s p
-white-only s p w d =
-    let low = d .low in
-    let high = d .high in
-    let most = run-longest white white-fair s p w low high (d .white-there) in
-    ⊎-elim
-    (λ (more : w < runEnd white s p). absurd (d .all (runEnd white s p) more (run-le white s p (omega arith)) (run-joins white s p)))
-    (λ (no-more : runEnd white s p ≤ w). omega arith)
-    (cases-lt w (runEnd white s p))
+white-only s p w d = run-only white white-fair s p w d
 
 pub blank-is : (s : List ℕ) (p : ℕ) → p ≤ length s → BlankLines s p (blankEnd s p)
 blank-is s p l =

@@ -4,10 +4,9 @@ use mathlib.Core.List.{List}
 use mathlib.Core.Logic.{_⊎_}
 use Prim.Native.Nat.{ℕ, _+_, _-_, _≤_, _<_}
 use lib.ListN.{length, getD}
-use Rattle.std.specs.Holes.{between}
 use Rattle.std.specs.declared.option.Option.{Option}
 use Rattle.std.specs.declared.option.Option.the-variants.{Some, None}
-use Rattle.script.specs.Sequences.{Sequences}
+use Rattle.script.specs.Sequences.{Run}
 use Rattle.script.specs.WhiteTable.{white}
 use Rattle.frontmatter.specs.declared.source.Span.{Span}
 
@@ -42,11 +41,8 @@ abbrev pub NextLine : List ℕ → ℕ → ℕ → Type 0
 NextLine s p z = (e : ℕ) × Line s p e × (((e < length s) × (z ≡ e + 1)) ⊎ ((e ≡ length s) × (z ≡ length s)))
 
 -- the white space at p, all of it, ends at w
-pub record WhiteSpace (s : List ℕ) (p w : ℕ) : Type 0 where
-  pub low : p ≤ w
-  pub high : w ≤ length s
-  pub white-there : Sequences white (between p w s)
-  pub all : (v : ℕ) → w < v → v ≤ length s → Sequences white (between p v s) → ⊥
+abbrev pub WhiteSpace : List ℕ → ℕ → ℕ → Type 0
+WhiteSpace s p w = Run white s p w
 
 -- the blank lines at p end at q: after the last LF of the white space there, or at p where it has none
 pub record BlankLines (s : List ℕ) (p q : ℕ) : Type 0 where

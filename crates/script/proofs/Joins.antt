@@ -12,7 +12,7 @@ use Rattle.std.specs.shelf.Lists.{All, joined}
 use Rattle.std.specs.Holes.{between}
 use Rattle.std.proofs.shelf.Lists.{append-assoc, getD-append-add, getD-append-left, drop-drop, length-take-le, length-drop, take-append-drop, getD-take, getD-drop}
 use Rattle.std.proofs.shelf.Tests.{and-parts, lt-ltb, cases-lt}
-use Rattle.script.specs.Sequences.{Range, Row, holds, stands, sequence, after, runEnd, Sequence, Sequences}
+use Rattle.script.specs.Sequences.{Range, Row, holds, stands, sequence, after, runEnd, Sequence, Sequences, Run}
 use Rattle.script.proofs.Runs.{stands-within, sequence-within, after-ge, after-none, run-step, run-stop}
 
 -- a table where a row that stands somewhere is the one that is found there, and no row is empty
@@ -83,11 +83,11 @@ found-step : (r : Row) (t : List Row) (bs : List ℕ) (p : ℕ) (b : Bool) → s
 found-step r t bs p true e l ih = (0, omega arith, e, refl)
 found-step r t bs p false e l ih = let k = ih l in (suc (k .0), omega (arith, k .1), k .2, k .3)
 
-found-row : (t : List Row) (bs : List ℕ) (p : ℕ) → 0 < sequence t bs p → (k : ℕ) × (k < length t) × (stands (getD t k []) bs p ≡ true) × (sequence t bs p ≡ length (getD t k []))
+pub found-row : (t : List Row) (bs : List ℕ) (p : ℕ) → 0 < sequence t bs p → (k : ℕ) × (k < length t) × (stands (getD t k []) bs p ≡ true) × (sequence t bs p ≡ length (getD t k []))
 found-row [] bs p l = absurd (omega arith)
 found-row (r ∷ t) bs p l = found-step r t bs p (stands r bs p) refl l (found-row t bs p)
 
-found-sequence : (t : List Row) (bs : List ℕ) (p : ℕ) → 0 < sequence t bs p → Sequence t (between p (p + sequence t bs p) bs)
+pub found-sequence : (t : List Row) (bs : List ℕ) (p : ℕ) → 0 < sequence t bs p → Sequence t (between p (p + sequence t bs p) bs)
 found-sequence t bs p l =
     let k = found-row t bs p l in
     let end = p + sequence t bs p in
@@ -141,3 +141,22 @@ after-le t bs p (suc n) l =
 
 pub run-le : (t : List Row) (bs : List ℕ) (p : ℕ) → p ≤ length bs → runEnd t bs p ≤ length bs
 run-le t bs p l = after-le t bs p (length bs) l
+
+-- where the run ends is the one place that fits its description
+pub run-is : (t : List Row) → Fair t → (bs : List ℕ) (p : ℕ) → p ≤ length bs → Run t bs p (runEnd t bs p)
+run-is t fair bs p l = record {
+  low = after-ge t bs p (length bs);
+  high = run-le t bs p l;
+  there = run-joins t bs p;
+  all = λ r more high there. omega (arith, run-longest t fair bs p r (omega (arith, after-ge t bs p (length bs))) high there);
+}
+
+pub run-only : (t : List Row) → Fair t → (bs : List ℕ) (p q : ℕ) → Run t bs p q → q ≡ runEnd t bs p
+run-only t fair bs p q d =
+    let low = d .low in
+    let high = d .high in
+    let most = run-longest t fair bs p q low high (d .there) in
+    ⊎-elim
+    (λ (more : q < runEnd t bs p). absurd (d .all (runEnd t bs p) more (run-le t bs p (omega arith)) (run-joins t bs p)))
+    (λ (no-more : runEnd t bs p ≤ q). omega arith)
+    (cases-lt q (runEnd t bs p))

@@ -20,7 +20,7 @@ use Rattle.script.specs.Admission.{most, illFormed, refusal, admitted, Judged}
 use Rattle.script.proofs.Joins.{run-joins, run-le, run-longest}
 use Rattle.script.proofs.Tables.{utf8-fair}
 
-front : (bs : List ℕ) (n : ℕ) → between 0 n bs ≡ take n bs
+pub front : (bs : List ℕ) (n : ℕ) → between 0 n bs ≡ take n bs
 front bs n = let same : n - 0 ≡ n = omega arith in ap (λ k. take k bs) same
 
 pub longest : (bs : List ℕ) → Longest bs (illFormed bs)

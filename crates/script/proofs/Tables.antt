@@ -1,5 +1,5 @@
 -- A table whose rows lie apart is fair: one test that computes, and the rule from it. Assumes nothing.
-use mathlib.Core.Path.{_≡_, refl, _∙_, ap}
+use mathlib.Core.Path.{_≡_, refl, sym, _∙_, ap}
 use mathlib.Core.Bool.{Bool, true, false, cond, _&&_, _||_}
 use mathlib.Core.List.{List, [], _∷_}
 use mathlib.Core.Logic.{⊎-elim}
@@ -7,15 +7,16 @@ use Prim.Native.Nat.{ℕ, zero, suc, _+_, _<_}
 use native.Mathlib.Omega.{arith}
 use lib.Dec.{ltb}
 use lib.ListN.{length, getD}
+use lib.Utf8.{encode}
 use Rattle.std.proofs.shelf.Tests.{and-parts, or-cases, ltb-true, cases-bool, cond-false, cond-true, leb-true}
 use Rattle.std.proofs.shelf.Ways.{tells}
-use Rattle.script.specs.Sequences.{Range, Row, holds, stands, sequence}
+use Rattle.script.specs.Sequences.{Range, Row, only, holds, stands, sequence}
 use Rattle.script.specs.Utf8Table.{utf8}
 use Rattle.script.specs.WhiteTable.{white}
 use Rattle.script.proofs.Joins.{Fair}
 
 -- no byte lies in both ranges
-abbrev disjoint : Range → Range → Bool
+abbrev pub disjoint : Range → Range → Bool
 disjoint a b = ltb (a .most) (b .least) || ltb (b .most) (a .least)
 
 -- at some place the rows have disjoint ranges
@@ -33,7 +34,7 @@ abbrev distinct : List Row → Bool
 distinct [] = true
 distinct (r ∷ t) = (ltb 0 (length r) && apartFrom r t) && distinct t
 
-disjoint-holds : (a b : Range) (bs : List ℕ) (p : ℕ) → disjoint a b ≡ true → holds a bs p ≡ true → holds b bs p ≡ true → ⊥
+pub disjoint-holds : (a b : Range) (bs : List ℕ) (p : ℕ) → disjoint a b ≡ true → holds a bs p ≡ true → holds b bs p ≡ true → ⊥
 disjoint-holds a b bs p d e f = let z : _≡_ {A = ℕ} 0 1 = grind (arith, tells) in omega arith
 
 apart-stands : (r s : Row) (bs : List ℕ) (p : ℕ) → apart r s ≡ true → stands r bs p ≡ true → stands s bs p ≡ true → ⊥
@@ -72,4 +73,20 @@ pub utf8-fair : Fair utf8
 utf8-fair = fair utf8 refl
 
 pub white-fair : Fair white
+unfolding encode
 white-fair = fair white refl
+
+-- the rows of the white-space characters, written out
+abbrev pub whiteRows : List Row
+whiteRows =
+    (only 0x09 ∷ []) ∷ (only 0x0A ∷ []) ∷ (only 0x0B ∷ []) ∷ (only 0x0C ∷ []) ∷ (only 0x0D ∷ []) ∷ (only 0x20 ∷ [])
+    ∷ (only 0xC2 ∷ only 0x85 ∷ [])
+    ∷ (only 0xE2 ∷ only 0x80 ∷ only 0x8E ∷ []) ∷ (only 0xE2 ∷ only 0x80 ∷ only 0x8F ∷ [])
+    ∷ (only 0xE2 ∷ only 0x80 ∷ only 0xA8 ∷ []) ∷ (only 0xE2 ∷ only 0x80 ∷ only 0xA9 ∷ []) ∷ []
+
+white-rows : white ≡ whiteRows
+unfolding encode
+white-rows = refl
+
+pub white-written : (bs : List ℕ) (p n : ℕ) → n ≡ sequence whiteRows bs p → n ≡ sequence white bs p
+white-written bs p n e = e ∙ ap (λ t. sequence t bs p) (sym white-rows)

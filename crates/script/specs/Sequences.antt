@@ -2,9 +2,10 @@
 use mathlib.Core.Path.{_≡_}
 use mathlib.Core.Bool.{Bool, true, cond, _&&_}
 use mathlib.Core.List.{List, [], _∷_}
-use Prim.Native.Nat.{ℕ, zero, suc, _+_, _<_}
+use Prim.Native.Nat.{ℕ, zero, suc, _+_, _≤_, _<_}
 use lib.Dec.{leb, ltb}
 use lib.ListN.{length, getD}
+use Rattle.std.specs.Holes.{between}
 use Rattle.std.specs.shelf.Lists.{All, joined}
 
 -- the bytes from `least` to `most`, both included
@@ -52,3 +53,10 @@ Sequence t q = (k : ℕ) × (k < length t) × (stands (getD t k []) q 0 ≡ true
 -- the bytes are sequences in a row
 abbrev pub Sequences : List Row → List ℕ → Type 0
 Sequences t bs = (qs : List (List ℕ)) × All (Sequence t) qs × (joined (λ q. q) qs ≡ bs)
+
+-- the sequences that follow one another from p on, all of them, end at q
+pub record Run (t : List Row) (bs : List ℕ) (p q : ℕ) : Type 0 where
+  pub low : p ≤ q
+  pub high : q ≤ length bs
+  pub there : Sequences t (between p q bs)
+  pub all : (r : ℕ) → q < r → r ≤ length bs → Sequences t (between p r bs) → ⊥

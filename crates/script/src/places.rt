@@ -1,8 +1,11 @@
 // Places of a script: where characters begin, how long they are, and where white space ends.
 ghost use mathlib.Core.Path.{_≡_};
-ghost use Rattle.script.specs.Sequences.{sequence, runEnd};
+ghost use Prim.Native.Nat.{_≤_};
+ghost use lib.ListN.{length};
+ghost use Rattle.script.specs.Sequences.{sequence, runEnd, Run};
 ghost use Rattle.script.specs.WhiteTable.{white};
-ghost use Rattle.script.specs.Places.{boundary, charLen};
+ghost use Rattle.std.specs.Orderings.{Decides};
+ghost use Rattle.script.specs.Places.{boundary, charLen, Whole, Spans};
 use crate::refusal::Refusal;
 use crate::script::Script;
 use crate::sequences::Table;
@@ -15,24 +18,38 @@ use crate::sequences::run_end;
 impl Script<'_> {
     // Whether a character begins at the place, or the script ends there.
     pub fn is_boundary(&self, place: usize) -> bool
-        ensures { λ r. ⌜ r ≡ boundary (now (self .entry) .bytes .now) place ⌝ }
+        ensures value { λ r. ⌜ r ≡ boundary (now (self .entry) .bytes .now) place ⌝ }
+        ensures characters { λ r. ⌜ Decides r (Whole (now (self .entry) .bytes .now) place) ⌝ }
     {
-        if place < self.bytes.len() {
-            !matches!(self.bytes[place], 0x80..=0xBF)
-        } else {
-            place == self.bytes.len()
-        }
+        boundary_at(self.bytes, place)
     }
 
     // The length in bytes of the character that begins at the place.
     pub fn char_len(&self, place: usize) -> Result<usize, Refusal>
-        ensures { λ r. ⌜ r ≡ charLen (now (self .entry) .bytes .now) place ⌝ }
+        ensures value { λ r. ⌜ r ≡ charLen (now (self .entry) .bytes .now) place ⌝ }
+        ensures character { λ r. ⌜ Spans (now (self .entry) .bytes .now) place r ⌝ }
     {
-        if place >= self.bytes.len() || !self.is_boundary(place) {
-            return Err(Refusal::NoCharacter);
-        }
-        Ok(Utf8.sequence_len(self.bytes, place))
+        char_len_at(self.bytes, place)
     }
+}
+
+fn boundary_at(bytes: &[u8], place: usize) -> bool
+    ensures { λ r. ⌜ r ≡ boundary (now (bytes .entry)) place ⌝ }
+{
+    if place < bytes.len() {
+        !matches!(bytes[place], 0x80..=0xBF)
+    } else {
+        place == bytes.len()
+    }
+}
+
+fn char_len_at(bytes: &[u8], place: usize) -> Result<usize, Refusal>
+    ensures { λ r. ⌜ r ≡ charLen (now (bytes .entry)) place ⌝ }
+{
+    if place >= bytes.len() || !boundary_at(bytes, place) {
+        return Err(Refusal::NoCharacter);
+    }
+    Ok(Utf8.sequence_len(bytes, place))
 }
 
 // The length in bytes of the white-space character at the place; 0 where there is none.
@@ -44,7 +61,8 @@ pub fn white_len(bytes: &[u8], place: usize) -> usize
 
 // Where the white space that begins at the place ends; the place itself where there is none.
 pub fn white_end(bytes: &[u8], place: usize) -> usize
-    ensures { λ r. ⌜ r ≡ runEnd white (now (bytes .entry)) place ⌝ }
+    ensures value { λ r. ⌜ r ≡ runEnd white (now (bytes .entry)) place ⌝ }
+    ensures run { λ r. ⌜ (place ≤ length (now (bytes .entry)) → Run white (now (bytes .entry)) place r) ⌝ }
 {
     run_end(&White, bytes, place)
 }

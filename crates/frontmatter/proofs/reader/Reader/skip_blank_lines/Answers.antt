@@ -13,7 +13,7 @@ pub find-back-self-requires : need.find-back-self-requires
 find-back-self-requires c κs =
     let s = c .args .self .now .bytes .now in
     let p = c .args .self .now .at in
-    (omega (arith, after-ge white s p (length s)), omega (arith, run-le white s p (c .pre)))
+    (omega (arith, c .white-end-end .ensures .value, after-ge white s p (length s)), omega (arith, c .white-end-end .ensures .value, run-le white s p (c .pre)))
 
 pub returns : need.returns
 returns c =
@@ -21,8 +21,8 @@ returns c =
     let p = c .args .self .now .at in
     let found = c .find-back-self .ensures in
     record {
-      after = found .value ∙ ap (pastLast (at LineFeed s) p) (c .white-end-end .ensures);
+      after = found .value ∙ ap (pastLast (at LineFeed s) p) (c .white-end-end .ensures .value);
       low = found .low;
-      high = omega (arith, found .high, c .white-end-end .ensures, run-le white s p (c .pre));
+      high = omega (arith, found .high, c .white-end-end .ensures .value, run-le white s p (c .pre));
       bytes = refl;
     }
