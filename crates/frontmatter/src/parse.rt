@@ -235,7 +235,7 @@ impl ScriptSource {
         ensures parses { λ r. ⌜ Parses (now (bytes .entry)) r ⌝ }
         ensures only { λ r. ⌜ ((a : Result ScriptSource Failure) → Parses (now (bytes .entry)) a → a ≡ r) ⌝ }
     {
-        read_bytes(bytes)
+        right_of_bytes(bytes, read_bytes(bytes))
     }
 
     // The parts of an admitted script.
@@ -244,8 +244,32 @@ impl ScriptSource {
         ensures reads { λ r. ⌜ Reads (now (script .entry) .bytes .now) r ⌝ }
         ensures only { λ r. ⌜ ((a : Answer) → Reads (now (script .entry) .bytes .now) a → a ≡ r) ⌝ }
     {
-        read_script(script.bytes())
+        let bytes = script.bytes();
+        right(bytes, read_script(bytes))
     }
+}
+
+// Gives the answer back with what it means.
+fn right(bytes: &[u8], answer: Result<ScriptSource, Fault>) -> Result<ScriptSource, Fault>
+    requires { ⌜ answer ≡ parsed (now bytes) ⌝ }
+    ensures value { λ r. ⌜ r ≡ parsed (now (bytes .entry)) ⌝ }
+    ensures reads { λ r. ⌜ Reads (now (bytes .entry)) r ⌝ }
+    ensures only { λ r. ⌜ ((a : Answer) → Reads (now (bytes .entry)) a → a ≡ r) ⌝ }
+{
+    answer
+}
+
+// Gives the answer back with what it means.
+fn right_of_bytes(
+    bytes: &[u8],
+    answer: Result<ScriptSource, Failure>,
+) -> Result<ScriptSource, Failure>
+    requires { ⌜ answer ≡ parsing (now bytes) ⌝ }
+    ensures value { λ r. ⌜ r ≡ parsing (now (bytes .entry)) ⌝ }
+    ensures parses { λ r. ⌜ Parses (now (bytes .entry)) r ⌝ }
+    ensures only { λ r. ⌜ ((a : Result ScriptSource Failure) → Parses (now (bytes .entry)) a → a ≡ r) ⌝ }
+{
+    answer
 }
 
 fn read_bytes(bytes: &[u8]) -> Result<ScriptSource, Failure>

@@ -8,7 +8,7 @@ use lib.Dec.{leb, eqb}
 use lib.ListN.{length, take, drop}
 use lib.Seq.{take-length}
 use Rattle.std.specs.Holes.{between}
-use Rattle.std.specs.Options.{isSome}
+use Rattle.std.specs.Options.{isSome, Cases}
 use Rattle.std.specs.declared.option.Option.{Option}
 use Rattle.std.specs.declared.option.Option.the-variants.{Some, None}
 use Rattle.std.proofs.shelf.Tests.{leb-true, leb-false, eqb-true, eqb-false, le-leb, lt-leb, eq-eqb, ne-eqb, cond-true, cond-false}
@@ -16,7 +16,7 @@ use Rattle.script.specs.declared.refusal.Refusal.{Refusal}
 use Rattle.script.specs.declared.refusal.Refusal.the-variants.{TooLong, NotUtf8, NoCharacter}
 use Rattle.script.specs.Sequences.{Sequences}
 use Rattle.script.specs.Utf8Table.{utf8, WellFormed, Longest}
-use Rattle.script.specs.Admission.{most, illFormed, refusal, admitted, Judged}
+use Rattle.script.specs.Admission.{most, illFormed, refusal, admits, admitted, Judged}
 use Rattle.script.proofs.Joins.{run-joins, run-le, run-longest}
 use Rattle.script.proofs.Tables.{utf8-fair}
 
@@ -67,3 +67,11 @@ kept-by bs true true o e = sym (ap (λ r. cond (isSome r) [] bs) e)
 
 pub kept : (bs : List ℕ) (o : Option Refusal) → o ≡ refusal bs → admitted bs ≡ cond (isSome o) [] bs
 kept bs o e = kept-by bs (leb (length bs) most) (eqb (illFormed bs) (length bs)) o e
+
+passed-by : (bs : List ℕ) (short whole : Bool) (o : Option Refusal) → o ≡ cond short (cond whole None (Some (NotUtf8 (illFormed bs)))) (Some TooLong) → Cases o ((short && whole) ≡ true) (λ _. Unit {0})
+passed-by bs true true o e = subst (λ r. Cases r (true ≡ true) (λ _. Unit {0})) (sym e) refl
+passed-by bs true false o e = subst (λ r. Cases r (false ≡ true) (λ _. Unit {0})) (sym e) tt
+passed-by bs false whole o e = subst (λ r. Cases r (false ≡ true) (λ _. Unit {0})) (sym e) tt
+
+pub passed : (bs : List ℕ) (o : Option Refusal) → o ≡ refusal bs → Cases o (admits bs ≡ true) (λ _. Unit {0})
+passed bs o e = passed-by bs (leb (length bs) most) (eqb (illFormed bs) (length bs)) o e

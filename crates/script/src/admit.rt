@@ -1,12 +1,13 @@
 // Admission: the test that bytes pass once, before anything else reads them.
 ghost use mathlib.Core.Path.{_≡_};
-ghost use mathlib.Core.List.{List};
-ghost use mathlib.Core.Bool.{true};
+ghost use mathlib.Core.List.{List, []};
+ghost use mathlib.Core.Bool.{true, cond};
 ghost use Prim.Native.Nat.{ℕ};
+ghost use Rattle.std.specs.Options.{isSome, Cases as BySome};
 ghost use Rattle.std.specs.Results.{Cases};
 ghost use Rattle.std.specs.declared.option.Option.{Option};
 ghost use Rattle.std.specs.declared.option.Option.the-variants.{Some, None};
-ghost use Rattle.script.specs.Admission.{refusal, admitted, number, Judged};
+ghost use Rattle.script.specs.Admission.{refusal, admits, admitted, number, Judged};
 use crate::refusal::Refusal;
 use crate::script::Admission;
 use crate::script::Script;
@@ -25,14 +26,15 @@ impl<'a> Script<'a> {
         ensures judged { λ r. ⌜ Judged (now (bytes .entry)) (r .refused) ⌝ }
         ensures only { λ r. ⌜ ((o : Option Refusal) → Judged (now (bytes .entry)) o → o ≡ r .refused) ⌝ }
     {
-        match why_not(bytes) {
+        let refused = judge(bytes, why_not(bytes));
+        match refused {
             None => Admission {
                 script: Script { bytes },
-                refused: None,
+                refused,
             },
-            Some(why) => Admission {
+            Some(_) => Admission {
                 script: Script { bytes: &[] },
-                refused: Some(why),
+                refused,
             },
         }
     }
@@ -67,6 +69,18 @@ impl Refusal {
             Refusal::NoCharacter => 21,
         }
     }
+}
+
+// Gives the answer back with what it means.
+fn judge(bytes: &[u8], refused: Option<Refusal>) -> Option<Refusal>
+    requires { ⌜ refused ≡ refusal (now bytes) ⌝ }
+    ensures value { λ r. ⌜ r ≡ refusal (now (bytes .entry)) ⌝ }
+    ensures kept { λ r. ⌜ cond (isSome r) [] (now (bytes .entry)) ≡ admitted (now (bytes .entry)) ⌝ }
+    ensures test { λ r. ⌜ BySome r (admits (now (bytes .entry)) ≡ true) (λ _. Unit {0}) ⌝ }
+    ensures judged { λ r. ⌜ Judged (now (bytes .entry)) r ⌝ }
+    ensures only { λ r. ⌜ ((o : Option Refusal) → Judged (now (bytes .entry)) o → o ≡ r) ⌝ }
+{
+    refused
 }
 
 fn why_not(bytes: &[u8]) -> Option<Refusal>

@@ -21,7 +21,7 @@ impl Script<'_> {
         ensures value { λ r. ⌜ r ≡ boundary (now (self .entry) .bytes .now) place ⌝ }
         ensures characters { λ r. ⌜ Decides r (Whole (now (self .entry) .bytes .now) place) ⌝ }
     {
-        boundary_at(self.bytes, place)
+        self.characters_before(place, boundary_at(self.bytes, place))
     }
 
     // The length in bytes of the character that begins at the place.
@@ -29,7 +29,28 @@ impl Script<'_> {
         ensures value { λ r. ⌜ r ≡ charLen (now (self .entry) .bytes .now) place ⌝ }
         ensures character { λ r. ⌜ Spans (now (self .entry) .bytes .now) place r ⌝ }
     {
-        char_len_at(self.bytes, place)
+        if place >= self.bytes.len() || !boundary_at(self.bytes, place) {
+            return self.character_at(place, Err(Refusal::NoCharacter));
+        }
+        self.character_at(place, Ok(Utf8.sequence_len(self.bytes, place)))
+    }
+
+    // Gives the answer back with what it means.
+    fn characters_before(&self, place: usize, begins: bool) -> bool
+        requires { ⌜ begins ≡ boundary (now self .bytes .now) place ⌝ }
+        ensures value { λ r. ⌜ r ≡ boundary (now (self .entry) .bytes .now) place ⌝ }
+        ensures characters { λ r. ⌜ Decides r (Whole (now (self .entry) .bytes .now) place) ⌝ }
+    {
+        begins
+    }
+
+    // Gives the answer back with what it means.
+    fn character_at(&self, place: usize, answer: Result<usize, Refusal>) -> Result<usize, Refusal>
+        requires { ⌜ answer ≡ charLen (now self .bytes .now) place ⌝ }
+        ensures value { λ r. ⌜ r ≡ charLen (now (self .entry) .bytes .now) place ⌝ }
+        ensures character { λ r. ⌜ Spans (now (self .entry) .bytes .now) place r ⌝ }
+    {
+        answer
     }
 }
 
@@ -41,15 +62,6 @@ fn boundary_at(bytes: &[u8], place: usize) -> bool
     } else {
         place == bytes.len()
     }
-}
-
-fn char_len_at(bytes: &[u8], place: usize) -> Result<usize, Refusal>
-    ensures { λ r. ⌜ r ≡ charLen (now (bytes .entry)) place ⌝ }
-{
-    if place >= bytes.len() || !boundary_at(bytes, place) {
-        return Err(Refusal::NoCharacter);
-    }
-    Ok(Utf8.sequence_len(bytes, place))
 }
 
 // The length in bytes of the white-space character at the place; 0 where there is none.
@@ -64,5 +76,14 @@ pub fn white_end(bytes: &[u8], place: usize) -> usize
     ensures value { λ r. ⌜ r ≡ runEnd white (now (bytes .entry)) place ⌝ }
     ensures run { λ r. ⌜ (place ≤ length (now (bytes .entry)) → Run white (now (bytes .entry)) place r) ⌝ }
 {
-    run_end(&White, bytes, place)
+    white_run(bytes, place, run_end(&White, bytes, place))
+}
+
+// Gives the answer back with what it means.
+fn white_run(bytes: &[u8], place: usize, end: usize) -> usize
+    requires { ⌜ end ≡ runEnd white (now bytes) place ⌝ }
+    ensures value { λ r. ⌜ r ≡ runEnd white (now (bytes .entry)) place ⌝ }
+    ensures run { λ r. ⌜ (place ≤ length (now (bytes .entry)) → Run white (now (bytes .entry)) place r) ⌝ }
+{
+    end
 }

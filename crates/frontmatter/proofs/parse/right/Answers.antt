@@ -1,0 +1,9 @@
+use mathlib.Core.Path.{sym, subst, _∙_}
+use Rattle.frontmatter.specs.Reads.{Reads}
+use Rattle.frontmatter.proofs.Right.{sound, only}
+use Rattle.frontmatter.proofs.parse.right.Needs as need
+
+pub returns : need.returns
+returns c =
+    let s = c .args .bytes .now in
+    record { value = c .pre; reads = subst (Reads s) (sym (c .pre)) (sound s); only = λ a d. only s a d ∙ sym (c .pre) }
