@@ -183,12 +183,12 @@ fn read_fenced(
     ensures { λ r. ⌜ r ≡ opened (now (reader .entry) .bytes .now) shebang fence ⌝ }
 {
     let bytes = reader.bytes;
-    let end = find(bytes, Class::LineFeed, fence.end, bytes.len());
-    if end == bytes.len() {
+    let line_end = find(bytes, Class::LineFeed, fence.end, bytes.len());
+    if line_end == bytes.len() {
         return Err(unclosed_fault(bytes, fence));
     }
-    let info = trimmed(bytes, fence.end, without_cr(bytes, fence.end, end));
-    reader.at = end;
+    let info = trimmed(bytes, fence.end, without_cr(bytes, fence.end, line_end));
+    reader.at = line_end;
     let Some(found) = reader.find_close(fence.end - fence.start) else {
         return Err(unclosed_fault(bytes, fence));
     };
@@ -211,7 +211,7 @@ fn read_fenced(
             shebang,
             fence,
             info,
-            end,
+            end: line_end,
         },
         close,
     )
