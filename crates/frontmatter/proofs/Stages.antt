@@ -19,9 +19,11 @@ reads-on s sh body f l =
     cond-false (eqb (f .end - f .start) 0) (plain s sh body) (cond (ltb (f .end - f .start) 3) (fault TooFewDashes (span (length s) (length s)) f None) (opened s sh f)) (ne-eqb (f .end - f .start) 0 (λ e. omega arith))
     ∙ cond-false (ltb (f .end - f .start) 3) (fault TooFewDashes (span (length s) (length s)) f None) (opened s sh f) (le-ltb (f .end - f .start) 3 l)
 
-pub whole : (s s′ : List ℕ) (sh : Option Span) (f : Span) (r : Answer) → s′ ≡ s → sh ≡ shebang s → f .start ≡ blankEnd s (bodyStart s) → f .end ≡ dashEnd s (f .start) → 3 ≤ f .end - f .start → r ≡ opened s′ sh f → r ≡ parsed s
-whole s s′ sh f r bytes she start end l e =
+-- what is read from the first dashes on is the answer for the script
+pub whole : (s s′ : List ℕ) (sh : Option Span) (body : ℕ) (f : Span) (r : Answer) → s′ ≡ s → sh ≡ shebang s → body ≡ bodyStart s → f .start ≡ blankEnd s body → f .end ≡ dashEnd s (f .start) → r ≡ opening s′ sh body f → r ≡ parsed s
+whole s s′ sh body f r bytes she begins start end e =
     let o = blankEnd s (bodyStart s) in
-    let at-end : f .end ≡ dashEnd s o = end ∙ ap (dashEnd s) start in
-    let is : f ≡ span o (dashEnd s o) = ap (λ a. span a (f .end)) start ∙ ap (span o) at-end in
-    e ∙ (ap (λ z. opened z sh f) bytes ∙ (sym (reads-on s sh (bodyStart s) f l) ∙ (ap (λ z. opening s z (bodyStart s) f) she ∙ ap (opening s (shebang s) (bodyStart s)) is)))
+    let at-start : f .start ≡ o = start ∙ ap (blankEnd s) begins in
+    let at-end : f .end ≡ dashEnd s o = end ∙ ap (dashEnd s) at-start in
+    let is : f ≡ span o (dashEnd s o) = ap (λ a. span a (f .end)) at-start ∙ ap (span o) at-end in
+    e ∙ (ap (λ z. opening z sh body f) bytes ∙ (ap (λ z. opening s z body f) she ∙ (ap (λ z. opening s (shebang s) z f) begins ∙ ap (opening s (shebang s) (bodyStart s)) is)))

@@ -7,7 +7,7 @@ ghost use Rattle.std.specs.declared.result.Result.the-variants.{Err};
 ghost use Rattle.frontmatter.specs.Lines.{lineEnd, nextLine, withoutCr};
 ghost use Rattle.frontmatter.specs.Parsing.{parsing, Parses};
 ghost use Rattle.frontmatter.specs.Reads.{Reads};
-ghost use Rattle.frontmatter.specs.Parsed.{Answer, span, isShebang, shebang, bodyStart, text, closeText, content, closed, unclosed, opened, parsed};
+ghost use Rattle.frontmatter.specs.Parsed.{Answer, span, isShebang, shebang, bodyStart, text, closeText, content, closed, unclosed, opened, opening, parsed};
 use crate::find::Class;
 use crate::find::find;
 use crate::find::find_back;
@@ -285,12 +285,22 @@ fn read_script(bytes: &[u8]) -> Result<ScriptSource, Fault>
 {
     let mut reader = Reader { bytes, at: 0 };
     let shebang = read_shebang(&mut reader);
-    let content = Span {
-        start: reader.at,
-        end: bytes.len(),
-    };
+    let body = reader.at;
     reader.skip_blank_lines();
     let fence = reader.dashes();
+    read_opening(&mut reader, shebang, body, fence)
+}
+
+// The reader stands after the dashes with which the first line that is not blank begins.
+fn read_opening(
+    reader: &mut Reader,
+    shebang: Option<Span>,
+    body: usize,
+    fence: Span,
+) -> Result<ScriptSource, Fault>
+    requires { ⌜ now reader .at ≡ fence .end ⌝ ∗ ⌜ fence .start ≤ fence .end ⌝ ∗ ⌜ fence .end ≤ length (now reader .bytes .now) ⌝ }
+    ensures { λ r. ⌜ r ≡ opening (now (reader .entry) .bytes .now) shebang body fence ⌝ }
+{
     match fence.end - fence.start {
         0 => Ok(ScriptSource {
             shebang,
@@ -298,15 +308,18 @@ fn read_script(bytes: &[u8]) -> Result<ScriptSource, Fault>
             info: None,
             frontmatter: None,
             close: None,
-            content,
+            content: Span {
+                start: body,
+                end: reader.bytes.len(),
+            },
         }),
         1 | 2 => Err(Fault {
             kind: FaultKind::TooFewDashes,
-            primary: at_end(bytes),
+            primary: at_end(reader.bytes),
             open: fence,
             close: None,
         }),
-        _ => read_fenced(&mut reader, shebang, fence),
+        _ => read_fenced(reader, shebang, fence),
     }
 }
 
