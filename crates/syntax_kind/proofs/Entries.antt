@@ -2,16 +2,16 @@
 use mathlib.Core.Path.{_≡_, refl, sym, _∙_, ap}
 use mathlib.Core.Bool.{Bool, true, false, cond, not, _&&_}
 use mathlib.Core.List.{List, [], _∷_}
-use mathlib.Core.Logic.{_⊎_, inl, inr}
-use Prim.Native.Nat.{ℕ, _≤_}
+use mathlib.Core.Logic.{inl, inr}
+use Prim.Native.Nat.{ℕ}
 use native.Mathlib.Omega.{arith}
 use lib.Dec.{leb}
 use Rattle.std.specs.shelf.Text.{sameBytes}
 use Rattle.std.proofs.shelf.Equals.{sameBytes-decides}
 use Rattle.std.proofs.shelf.Tests.{and-parts, and-from, leb-true, le-leb, not-true, both-ways, cond-true, cond-false}
-use Rattle.std.specs.declared.option.Option.the-variants.{Some, None}
+use Rattle.std.specs.declared.option.Option.the-variants.{Some}
 use Rattle.syntax_kind.specs.Keywords.{Entry, fits, lookUp}
-use Rattle.syntax_kind.specs.Laws.{Among, Names, Found-stands, Standing-found, Never-both}
+use Rattle.syntax_kind.specs.Named.{Among, Names, Claimed, Free}
 
 -- an entry fits exactly what it names
 names : (e : Entry) (text : List ℕ) (edition : ℕ) → fits e text edition ≡ true → Names e text edition
@@ -66,14 +66,16 @@ disjoint-at (x ∷ xs) ys e t (inr m) = disjoint-at xs ys e (and-parts (clear x 
 
 found-step : (x : Entry) (xs : List Entry) (text : List ℕ) (edition kind : ℕ) (b : Bool) → fits x text edition ≡ b
     → cond b (Some (x .kind)) (lookUp xs text edition) ≡ Some kind
-    → (lookUp xs text edition ≡ Some kind → (e : Entry) × Among e xs × Names e text edition × (e .kind ≡ kind))
-    → (e : Entry) × Among e (x ∷ xs) × Names e text edition × (e .kind ≡ kind)
+    → (lookUp xs text edition ≡ Some kind → Claimed xs text edition kind)
+    → Claimed (x ∷ xs) text edition kind
 found-step x xs text edition kind true t h more = (x, inl refl, names x text edition t, cc)
 found-step x xs text edition kind false t h more =
     let r = more h in
     (r .0, inr (r .1), r .2, r .3)
 
-pub found-stands : (table : List Entry) → Found-stands table
+-- a kind that is looked up is that of an entry
+pub found-stands : (table : List Entry) (text : List ℕ) (edition kind : ℕ) → lookUp table text edition ≡ Some kind
+    → Claimed table text edition kind
 found-stands [] text edition kind h = let z : _≡_ {A = ℕ} 0 1 = cc in absurd (omega arith)
 found-stands (x ∷ xs) text edition kind h =
     found-step x xs text edition kind (fits x text edition) refl h (found-stands xs text edition kind)
@@ -85,7 +87,9 @@ passed-over x e xs text edition true t c m n =
     absurd (both-ways (overlap x e) (clear-at x xs e c m) (overlap-named x e text edition (names x text edition t) n))
 passed-over x e xs text edition false t c m n = refl
 
-pub standing-found : (table : List Entry) → apart table ≡ true → Standing-found table
+-- an entry is found by its text in each of its editions
+pub standing-found : (table : List Entry) → apart table ≡ true → (text : List ℕ) (edition : ℕ) (e : Entry) → Among e table
+    → Names e text edition → lookUp table text edition ≡ Some (e .kind)
 standing-found [] t text edition e m n = absurd m
 standing-found (x ∷ xs) t text edition e (inl q) n =
     cond-true (fits x text edition) (Some (x .kind)) (lookUp xs text edition)
@@ -97,10 +101,10 @@ standing-found (x ∷ xs) t text edition e (inr m) n =
     (passed-over x e xs text edition (fits x text edition) refl (p .0) m n)
     ∙ standing-found xs (p .1) text edition e m n
 
-pub never-both : (xs ys : List Entry) → disjoint xs ys ≡ true → Never-both xs ys
-never-both xs ys t text edition j k p q =
-    let a = found-stands xs text edition j p in
-    let b = found-stands ys text edition k q in
-    both-ways (overlap (a .0) (b .0))
-    (clear-at (a .0) ys (b .0) (disjoint-at xs ys (a .0) t (a .1)) (b .1))
-    (overlap-named (a .0) (b .0) text edition (a .2) (b .2))
+-- a text that the one table claims is free in the other
+pub claimed-free : (xs ys : List Entry) → disjoint xs ys ≡ true → (text : List ℕ) (edition kind : ℕ)
+    → Claimed ys text edition kind → Free xs text edition
+claimed-free xs ys t text edition kind c e m n =
+    both-ways (overlap e (c .0))
+    (clear-at e ys (c .0) (disjoint-at xs ys e t m) (c .1))
+    (overlap-named e (c .0) text edition n (c .2))

@@ -33,10 +33,9 @@ abbrev pub lookUp : List Entry → List ℕ → ℕ → Option ℕ
 lookUp [] text edition = None
 lookUp (e ∷ es) text edition = cond (fits e text edition) (Some (e .kind)) (lookUp es text edition)
 
--- the strict keywords: such a text is a keyword wherever it stands.
--- The tables stay shut, so that a caller's goal does not spell one out
-unfoldable pub strict : List Entry
-strict =
+-- the strict keywords: such a text is a keyword wherever it stands
+abbrev pub strictRows : List Entry
+strictRows =
     entry (codes "Self") 54 0 3 ∷
     entry (codes "abstract") 55 0 3 ∷
     entry (codes "as") 56 0 3 ∷
@@ -92,8 +91,8 @@ strict =
     []
 
 -- the contextual keywords: such a text is a keyword where the grammar asks for it, else an identifier
-unfoldable pub contextual : List Entry
-contextual =
+abbrev pub contextualRows : List Entry
+contextualRows =
     entry (codes "asm") 101 0 3 ∷
     entry (codes "att_syntax") 103 0 3 ∷
     entry (codes "auto") 104 0 3 ∷
@@ -134,14 +133,25 @@ contextual =
     entry (codes "yeet") 142 0 3 ∷
     []
 
+-- the two tables, shut, so that a caller's goal does not spell one out
+unfoldable pub strict : List Entry
+strict = strictRows
+
+unfoldable pub contextual : List Entry
+contextual = contextualRows
+
+-- the kind of the keyword that a text is, if it is one, or a refusal
+abbrev pub Answer : Type 0
+Answer = Result (Option ℕ) Refusal
+
 -- the answer of a table: an edition past the last is refused, whatever the text
-abbrev pub answerOf : List Entry → List ℕ → ℕ → Result (Option ℕ) Refusal
+abbrev pub answerOf : List Entry → List ℕ → ℕ → Answer
 answerOf table text edition = cond (leb edition 3) (Ok (lookUp table text edition)) (Err Edition)
 
 -- the strict keyword that a text is
-abbrev pub keywordAnswer : List ℕ → ℕ → Result (Option ℕ) Refusal
+abbrev pub keywordAnswer : List ℕ → ℕ → Answer
 keywordAnswer text edition = answerOf strict text edition
 
 -- the contextual keyword that a text is
-abbrev pub contextualAnswer : List ℕ → ℕ → Result (Option ℕ) Refusal
+abbrev pub contextualAnswer : List ℕ → ℕ → Answer
 contextualAnswer text edition = answerOf contextual text edition

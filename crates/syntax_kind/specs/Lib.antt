@@ -1,5 +1,5 @@
 pub mod Refusals
 pub mod Trivia
 pub mod Keywords
+pub mod Named
 pub mod Tables
-pub mod Laws

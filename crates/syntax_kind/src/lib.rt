@@ -5,14 +5,10 @@ ghost use Rattle.syntax_kind.specs.Trivia.{triviaAnswer};
 
 mod keywords;
 pub mod kinds;
-mod laws;
 mod tables;
 
 pub use keywords::from_contextual_keyword;
 pub use keywords::from_keyword;
-pub use laws::contextual_keywords_are_the_table;
-pub use laws::no_keyword_is_both;
-pub use laws::strict_keywords_are_the_table;
 
 pub const EDITION_2015: u8 = 0;
 

@@ -1,0 +1,6 @@
+pub mod Asked
+pub mod Hex
+pub mod Numbers
+pub mod Places
+pub mod Texts
+pub mod Transcript

@@ -1,0 +1,4 @@
+pub mod Commands
+pub mod Meaning
+pub mod Reports
+pub mod Texts
