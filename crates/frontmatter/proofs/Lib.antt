@@ -4,4 +4,5 @@ pub mod Stages
 pub mod Words
 pub mod Openings
 pub mod Right
+pub mod Places
 pub mod Parses

@@ -4,4 +4,5 @@ pub mod Closes
 pub mod Parsed
 pub mod Fences
 pub mod Reads
+pub mod Placed
 pub mod Parsing

@@ -14,6 +14,7 @@ use Rattle.frontmatter.specs.declared.source.Failure.{Failure}
 use Rattle.frontmatter.specs.declared.source.Failure.the-variants.{Refused, Faulty}
 use Rattle.frontmatter.specs.Parsed.{Answer, parsed}
 use Rattle.frontmatter.specs.Reads.{Reads}
+use Rattle.frontmatter.specs.Placed.{Placed}
 
 abbrev pub read : Answer → Result ScriptSource Failure
 read (Ok source) = Ok source
@@ -40,3 +41,9 @@ abbrev pub Parses : List ℕ → Result ScriptSource Failure → Type 0
 Parses bs (Ok source) = Judged bs None × Reads bs (Ok source)
 Parses bs (Err (Refused why)) = Judged bs (Some why)
 Parses bs (Err (Faulty f)) = Judged bs None × Reads bs (Err f)
+
+-- an answer for a script has its spans in their places
+abbrev pub PlacedIn : List ℕ → Result ScriptSource Failure → Type 0
+PlacedIn bs (Ok source) = Placed bs (Ok source)
+PlacedIn bs (Err (Refused why)) = Unit {0}
+PlacedIn bs (Err (Faulty f)) = Placed bs (Err f)

@@ -5,7 +5,8 @@ ghost use lib.ListN.{length};
 ghost use Rattle.std.specs.declared.result.Result.{Result};
 ghost use Rattle.std.specs.declared.result.Result.the-variants.{Err};
 ghost use Rattle.frontmatter.specs.Lines.{lineEnd, nextLine, withoutCr};
-ghost use Rattle.frontmatter.specs.Parsing.{parsing, Parses};
+ghost use Rattle.frontmatter.specs.Parsing.{parsing, Parses, PlacedIn};
+ghost use Rattle.frontmatter.specs.Placed.{Placed};
 ghost use Rattle.frontmatter.specs.Reads.{Reads};
 ghost use Rattle.frontmatter.specs.Parsed.{Answer, span, isShebang, shebang, bodyStart, text, closeText, content, closed, unclosed, opened, opening, parsed};
 use crate::find::Class;
@@ -234,6 +235,7 @@ impl ScriptSource {
         ensures value { λ r. ⌜ r ≡ parsing (now (bytes .entry)) ⌝ }
         ensures parses { λ r. ⌜ Parses (now (bytes .entry)) r ⌝ }
         ensures only { λ r. ⌜ ((a : Result ScriptSource Failure) → Parses (now (bytes .entry)) a → a ≡ r) ⌝ }
+        ensures placed { λ r. ⌜ PlacedIn (now (bytes .entry)) r ⌝ }
     {
         right_of_bytes(bytes, read_bytes(bytes))
     }
@@ -243,18 +245,19 @@ impl ScriptSource {
         ensures value { λ r. ⌜ r ≡ parsed (now (script .entry) .bytes .now) ⌝ }
         ensures reads { λ r. ⌜ Reads (now (script .entry) .bytes .now) r ⌝ }
         ensures only { λ r. ⌜ ((a : Answer) → Reads (now (script .entry) .bytes .now) a → a ≡ r) ⌝ }
+        ensures placed { λ r. ⌜ Placed (now (script .entry) .bytes .now) r ⌝ }
     {
-        let bytes = script.bytes();
-        right(bytes, read_script(bytes))
+        right(script, read_script(script.bytes()))
     }
 }
 
 // Gives the answer back with what it means.
-fn right(bytes: &[u8], answer: Result<ScriptSource, Fault>) -> Result<ScriptSource, Fault>
-    requires { ⌜ answer ≡ parsed (now bytes) ⌝ }
-    ensures value { λ r. ⌜ r ≡ parsed (now (bytes .entry)) ⌝ }
-    ensures reads { λ r. ⌜ Reads (now (bytes .entry)) r ⌝ }
-    ensures only { λ r. ⌜ ((a : Answer) → Reads (now (bytes .entry)) a → a ≡ r) ⌝ }
+fn right(script: &Script, answer: Result<ScriptSource, Fault>) -> Result<ScriptSource, Fault>
+    requires { ⌜ answer ≡ parsed (now script .bytes .now) ⌝ }
+    ensures value { λ r. ⌜ r ≡ parsed (now (script .entry) .bytes .now) ⌝ }
+    ensures reads { λ r. ⌜ Reads (now (script .entry) .bytes .now) r ⌝ }
+    ensures only { λ r. ⌜ ((a : Answer) → Reads (now (script .entry) .bytes .now) a → a ≡ r) ⌝ }
+    ensures placed { λ r. ⌜ Placed (now (script .entry) .bytes .now) r ⌝ }
 {
     answer
 }
@@ -268,6 +271,7 @@ fn right_of_bytes(
     ensures value { λ r. ⌜ r ≡ parsing (now (bytes .entry)) ⌝ }
     ensures parses { λ r. ⌜ Parses (now (bytes .entry)) r ⌝ }
     ensures only { λ r. ⌜ ((a : Result ScriptSource Failure) → Parses (now (bytes .entry)) a → a ≡ r) ⌝ }
+    ensures placed { λ r. ⌜ PlacedIn (now (bytes .entry)) r ⌝ }
 {
     answer
 }

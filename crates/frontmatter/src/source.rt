@@ -3,9 +3,6 @@ ghost use mathlib.Core.Path.{_≡_};
 ghost use Rattle.frontmatter.specs.declared.source.Failure.the-variants as failure;
 ghost use Rattle.frontmatter.specs.Parsing.{letter};
 use script::Refusal;
-use script::RefusalDebug;
-use script::RefusalEq;
-use script::RefusalPartialEq;
 
 // The bytes from `start` up to `end`.
 #[derive(Clone, Copy, Debug, PartialEq, Eq)]
@@ -15,7 +12,7 @@ pub struct Span {
 }
 
 // The parts of a script. Without a fence, only the shebang and the content are there.
-#[derive(Clone, Copy, Debug, PartialEq, Eq)]
+#[derive(Clone, Copy)]
 pub struct ScriptSource {
     pub shebang: Option<Span>,
     pub open: Option<Span>,
@@ -25,7 +22,7 @@ pub struct ScriptSource {
     pub content: Span,
 }
 
-#[derive(Clone, Copy, Debug, PartialEq, Eq)]
+#[derive(Clone, Copy)]
 pub enum FaultKind {
     TooFewDashes,
     Unclosed,
@@ -36,7 +33,7 @@ pub enum FaultKind {
 }
 
 // A fence that breaks the rules. `primary` is where; `open` and `close` are the fences to show beside it.
-#[derive(Clone, Copy, Debug, PartialEq, Eq)]
+#[derive(Clone, Copy)]
 pub struct Fault {
     pub kind: FaultKind,
     pub primary: Span,
@@ -44,7 +41,7 @@ pub struct Fault {
     pub close: Option<Span>,
 }
 
-#[derive(Clone, Copy, Debug, PartialEq, Eq)]
+#[derive(Clone, Copy)]
 pub enum Failure {
     Refused(Refusal),
     Faulty(Fault),

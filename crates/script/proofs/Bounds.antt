@@ -11,8 +11,9 @@ use lib.Seq.{take-length, take-append-add}
 use Rattle.std.specs.shelf.Lists.{All, joined}
 use Rattle.std.specs.Holes.{between}
 use Rattle.std.specs.Orderings.{Decides}
-use Rattle.std.proofs.shelf.Lists.{getD-append-add, getD-append-left}
-use Rattle.std.proofs.shelf.Tests.{and-parts, and-from, both-ways, eqb-true, ltb-true, lt-ltb, cases-lt, cases-eq}
+use Rattle.std.proofs.shelf.Lists.{getD-append-add, getD-append-left, joined-more, take-more}
+use Rattle.std.proofs.shelf.Elements.{all-push}
+use Rattle.std.proofs.shelf.Tests.{and-parts, and-from, both-ways, eqb-true, le-leb, ltb-true, lt-ltb, cases-lt, cases-eq}
 use Rattle.std.proofs.shelf.Ways.{tells}
 use Rattle.script.specs.Sequences.{Range, Row, holds, stands, sequence, runEnd, Sequence, Sequences}
 use Rattle.script.specs.Utf8Table.{continuing, utf8, WellFormed}
@@ -137,7 +138,7 @@ admitted-well bs e =
 boundary-within : (bs : List ℕ) (p : ℕ) → boundary bs p ≡ true → p ≤ length bs
 boundary-within bs p e = grind (arith, tells)
 
-boundary-end : (bs : List ℕ) (p : ℕ) → p ≡ length bs → boundary bs p ≡ true
+pub boundary-end : (bs : List ℕ) (p : ℕ) → p ≡ length bs → boundary bs p ≡ true
 boundary-end bs p e = grind (arith, tells)
 
 pub boundaries : (bs : List ℕ) (p : ℕ) → admits bs ≡ true → Decides (boundary bs p) ((p ≤ length bs) × WellFormed (take p bs))
@@ -170,3 +171,22 @@ spans-by bs p false a e = (
 
 pub spans : (bs : List ℕ) (p : ℕ) → admits bs ≡ true → Spans bs p (charLen bs p)
 spans bs p a = spans-by bs p (ltb p (length bs) && boundary bs p) a refl
+
+-- before and after an ASCII byte there is a boundary
+pub boundary-start : (bs : List ℕ) → admits bs ≡ true → boundary bs 0 ≡ true
+boundary-start bs a = boundaries bs 0 a .1 (omega arith, ([], tt, refl))
+
+pub ascii-before : (bs : List ℕ) (p : ℕ) → p < length bs → getD bs p 0 < 128 → boundary bs p ≡ true
+ascii-before bs p l h = grind (arith, tells)
+
+one-byte : (b : ℕ) → b < 128 → Sequence utf8 (b ∷ [])
+one-byte b h =
+    (0, omega arith, and-from (true && (leb 0 b && leb b 0x7F)) true (and-from (leb 0 b) (leb b 0x7F) (le-leb 0 b (omega arith)) (le-leb b 0x7F (omega arith))) refl, refl)
+
+pub ascii-after : (bs : List ℕ) (p : ℕ) → admits bs ≡ true → p < length bs → getD bs p 0 < 128 → boundary bs (p + 1) ≡ true
+ascii-after bs p a l h =
+    let before = boundaries bs p a .0 (ascii-before bs p l h) .1 in
+    let b = getD bs p 0 in
+    let joins : joined (λ q. q) (before .0 ++ (b ∷ []) ∷ []) ≡ take (p + 1) bs =
+    sym (joined-more (λ (q : List ℕ). q) [] (before .0) (b ∷ [])) ∙ (ap (λ z. z ++ b ∷ []) (before .2) ∙ sym (take-more bs p 0 l)) in
+    boundaries bs (p + 1) a .1 (omega arith, (before .0 ++ (b ∷ []) ∷ [], all-push (Sequence utf8) (before .0) (b ∷ []) (before .1) (one-byte b h), joins))
