@@ -7,7 +7,16 @@ pub fn evaluated() -> u8
     ensures count { λ r. ⌜ r ≡ 5 ⌝ }
     ensures examples { λ _. ⌜ Examples ⌝ }
 {
-    5
+    hold(5)
+}
+
+// Gives the number back, with the examples themselves.
+fn hold(count: u8) -> u8
+    requires { ⌜ count ≡ 5 ⌝ }
+    ensures count { λ r. ⌜ r ≡ 5 ⌝ }
+    ensures examples { λ _. ⌜ Examples ⌝ }
+{
+    count
 }
 
 #[cfg(test)]
