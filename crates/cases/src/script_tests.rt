@@ -67,5 +67,6 @@ fn eleven_white_characters() -> Result<(), Fail> {
 fn numbers() -> Result<(), Fail> {
     check_eq(Refusal::TooLong.number(), 1)?;
     check_eq(Refusal::NotUtf8 { at: 7 }.number(), 2)?;
+    check_eq(Refusal::NotUtf8 { at: 7 }.value(), Some(7))?;
     check_eq(Refusal::NoCharacter.number(), 21)
 }

@@ -1,7 +1,7 @@
 -- Which bytes are a script, and what each refusal says.
 use mathlib.Core.Path.{_≡_}
 use mathlib.Core.Bool.{Bool, cond, _&&_}
-use mathlib.Core.List.{List, [], _∷_}
+use mathlib.Core.List.{List, []}
 use Prim.Native.Nat.{ℕ, _≤_, _<_}
 use lib.Dec.{leb, eqb}
 use lib.ListN.{length}
@@ -38,11 +38,11 @@ number TooLong = 1
 number (NotUtf8 at) = 2
 number NoCharacter = 21
 
--- the values that go with the number
-abbrev pub values : Refusal → List ℕ
-values TooLong = []
-values (NotUtf8 at) = at ∷ []
-values NoCharacter = []
+-- the value that goes with the number, if one does: the place of the first ill-formed byte
+abbrev pub value : Refusal → Option ℕ
+value TooLong = None
+value (NotUtf8 at) = Some at
+value NoCharacter = None
 
 -- an answer, in the words of the Unicode Standard
 abbrev pub Judged : List ℕ → Option Refusal → Type 0

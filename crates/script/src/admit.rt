@@ -7,7 +7,7 @@ ghost use Rattle.std.specs.Options.{isSome, Cases as BySome};
 ghost use Rattle.std.specs.Results.{Cases};
 ghost use Rattle.std.specs.declared.option.Option.{Option};
 ghost use Rattle.std.specs.declared.option.Option.the-variants.{Some, None};
-ghost use Rattle.script.specs.Admission.{refusal, admits, admitted, number, Judged};
+ghost use Rattle.script.specs.Admission.{refusal, admits, admitted, number, value, Judged};
 use crate::refusal::Refusal;
 use crate::script::Admission;
 use crate::script::Script;
@@ -67,6 +67,16 @@ impl Refusal {
             Refusal::TooLong => 1,
             Refusal::NotUtf8 { .. } => 2,
             Refusal::NoCharacter => 21,
+        }
+    }
+
+    // The place that goes with the number, if one does.
+    pub fn value(self) -> Option<usize>
+        ensures { λ r. ⌜ r ≡ value self ⌝ }
+    {
+        match self {
+            Refusal::NotUtf8 { at } => Some(at),
+            Refusal::TooLong | Refusal::NoCharacter => None,
         }
     }
 }
