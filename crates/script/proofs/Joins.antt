@@ -10,9 +10,9 @@ use lib.ListN.{length, getD, take, drop, length-append}
 use lib.Seq.{take-add}
 use Rattle.std.specs.shelf.Lists.{All, joined}
 use Rattle.std.specs.Holes.{between}
-use Rattle.std.proofs.shelf.Lists.{append-assoc, getD-append-add, getD-append-left, drop-drop, length-take-le, length-drop, take-append-drop, getD-take, getD-drop}
+use Rattle.std.proofs.shelf.Lists.{append-assoc, getD-append-add, getD-append-left, drop-drop, length-take, length-take-le, length-drop, take-append-drop, getD-take, getD-drop}
 use Rattle.std.proofs.shelf.Tests.{and-parts, lt-ltb, cases-lt}
-use Rattle.script.specs.Sequences.{Range, Row, holds, stands, sequence, after, runEnd, Sequence, Sequences, Run}
+use Rattle.script.specs.Sequences.{Range, Row, holds, stands, sequence, after, runEnd, Sequence, Sequences, Stands, Run}
 use Rattle.script.proofs.Runs.{stands-within, sequence-within, after-ge, after-none, run-step, run-stop}
 
 -- a table where a row that stands somewhere is the one that is found there, and no row is empty
@@ -37,24 +37,34 @@ stands-at (x ∷ r) xs q ys k l =
     ∙ ap (λ n. holds x q k && stands r (xs ++ (q ++ ys)) n) next
     ∙ ap (λ b. holds x q k && b) (stands-at r xs q ys (k + 1) (omega arith))
 
+-- a sequence in its place is found there
+sequence-at : (t : List Row) → Fair t → (xs q ys : List ℕ) → Sequence t q → sequence t (xs ++ (q ++ ys)) (length xs) ≡ length q
+sequence-at t fair xs q ys d =
+    let row = getD t (d .0) [] in
+    let bs = xs ++ (q ++ ys) in
+    let start : length xs + 0 ≡ length xs = omega arith in
+    let here : stands row bs (length xs + 0) ≡ true = stands-at row xs q ys 0 (omega (arith, d .3)) ∙ d .2 in
+    fair .found (d .0) (d .1) bs (length xs) (subst (λ n. stands row bs n ≡ true) start here) ∙ sym (d .3)
+
 -- past whole sequences the run goes on as before
 past : (t : List Row) → Fair t → (qs : List (List ℕ)) → All (Sequence t) qs → (xs ys : List ℕ) → runEnd t (xs ++ (joined (λ q. q) qs ++ ys)) (length xs) ≡ runEnd t (xs ++ (joined (λ q. q) qs ++ ys)) (length xs + length (joined (λ q. q) qs))
 past t fair [] all xs ys = let same : length xs ≡ length xs + 0 = omega arith in ap (runEnd t (xs ++ ys)) same
 past t fair (q ∷ qs) all xs ys =
     let rest = joined (λ (z : List ℕ). z) qs in
-    let k = all .0 .0 in
-    let row = getD t k [] in
     let bs = xs ++ ((q ++ rest) ++ ys) in
     let again : bs ≡ xs ++ (q ++ (rest ++ ys)) = ap (λ z. xs ++ z) (append-assoc q rest ys) in
-    let here : stands row bs (length xs + 0) ≡ true = ap (λ z. stands row z (length xs + 0)) again ∙ (stands-at row xs q (rest ++ ys) 0 (omega (arith, all .0 .3)) ∙ all .0 .2) in
-    let start : length xs + 0 ≡ length xs = omega arith in
-    let long : sequence t bs (length xs) ≡ length q = fair .found k (all .0 .1) bs (length xs) (subst (λ n. stands row bs n ≡ true) start here) ∙ sym (all .0 .3) in
+    let long : sequence t bs (length xs) ≡ length q = ap (λ z. sequence t z (length xs)) again ∙ sequence-at t fair xs q (rest ++ ys) (all .0) in
     let step : runEnd t bs (length xs) ≡ runEnd t bs (length xs + length q) = sym (run-step t bs (length xs)) ∙ ap (λ n. runEnd t bs (length xs + n)) long in
     let seam : bs ≡ (xs ++ q) ++ (rest ++ ys) = again ∙ sym (append-assoc xs q (rest ++ ys)) in
     let ih = past t fair qs (all .1) (xs ++ q) ys in
     let to : length (xs ++ q) ≡ length xs + length q = length-append xs q in
     let far : length (xs ++ q) + length rest ≡ length xs + length (q ++ rest) = omega (arith, to, length-append q rest) in
-    step ∙ (ap (runEnd t bs) (sym to) ∙ (ap (λ z. runEnd t z (length (xs ++ q))) seam ∙ (ih ∙ (ap (λ z. runEnd t z (length (xs ++ q) + length rest)) (sym seam) ∙ ap (runEnd t bs) far))))
+    step
+    ∙ (ap (runEnd t bs) (sym to)
+    ∙ (ap (λ z. runEnd t z (length (xs ++ q))) seam
+    ∙ (ih
+    ∙ (ap (λ z. runEnd t z (length (xs ++ q) + length rest)) (sym seam)
+    ∙ ap (runEnd t bs) far))))
 
 -- a list in three parts
 pub parts : (bs : List ℕ) (p q : ℕ) → p ≤ q → bs ≡ take p bs ++ (between p q bs ++ drop q bs)
@@ -160,3 +170,19 @@ run-only t fair bs p q d =
     (λ (more : q < runEnd t bs p). absurd (d .all (runEnd t bs p) more (run-le t bs p (omega arith)) (run-joins t bs p)))
     (λ (no-more : runEnd t bs p ≤ q). omega arith)
     (cases-lt q (runEnd t bs p))
+
+-- the sequence that stands at a place, or none of the table does
+there : (t : List Row) → Fair t → (bs : List ℕ) (p : ℕ) (q : List ℕ) → Sequence t q → between p (p + length q) bs ≡ q → sequence t bs p ≡ length q
+there t fair bs p q d e =
+    let some = fair .some (d .0) (d .1) in
+    let end = p + length q in
+    let within : end ≤ length bs = omega (arith, d .3, ap length e, length-take (end - p) (drop p bs), length-drop p bs) in
+    let from : length (take p bs) ≡ p = length-take-le p bs (omega arith) in
+    let whole : bs ≡ take p bs ++ (q ++ drop end bs) = parts bs p end (omega arith) ∙ ap (λ z. take p bs ++ (z ++ drop end bs)) e in
+    ap (λ z. sequence t z p) whole ∙ (ap (sequence t (take p bs ++ (q ++ drop end bs))) (sym from) ∙ sequence-at t fair (take p bs) q (drop end bs) d)
+
+pub stands-there : (t : List Row) → Fair t → (bs : List ℕ) (p : ℕ) → Stands t bs p (sequence t bs p)
+stands-there t fair bs p = record {
+  one = found-sequence t bs p;
+  none = λ e q d is. omega (arith, fair .some (d .0) (d .1), d .3, there t fair bs p q d is);
+}

@@ -36,6 +36,10 @@ pub sequence-within : (t : List Row) (bs : List ℕ) (p : ℕ) → 0 < sequence 
 sequence-within [] bs p l = absurd (omega arith)
 sequence-within (r ∷ t) bs p l = within-step r bs p (sequence t bs p) (stands r bs p) refl (sequence-within t bs p) l
 
+-- a step of a run: it goes on, and stays within the bytes
+pub step-within : (t : List Row) (bs : List ℕ) (p n : ℕ) → n ≡ sequence t bs p → (n ≡ 0 → ⊥) → (0 < n) × (p + n ≤ length bs)
+step-within t bs p n e some = (omega (arith, some), omega (arith, some, sequence-within t bs p (omega (arith, some))))
+
 module _ (t : List Row) (bs : List ℕ) where
   pub after-none : (p n : ℕ) → sequence t bs p ≡ 0 → after t n bs p ≡ p
   after-none p zero e = refl

@@ -54,6 +54,11 @@ Sequence t q = (k : ℕ) × (k < length t) × (stands (getD t k []) q 0 ≡ true
 abbrev pub Sequences : List Row → List ℕ → Type 0
 Sequences t bs = (qs : List (List ℕ)) × All (Sequence t) qs × (joined (λ q. q) qs ≡ bs)
 
+-- the n bytes at p are one sequence of the table; n is 0 exactly where no sequence of it stands there
+pub record Stands (t : List Row) (bs : List ℕ) (p n : ℕ) : Type 0 where
+  pub one : 0 < n → Sequence t (between p (p + n) bs)
+  pub none : n ≡ 0 → (q : List ℕ) → Sequence t q → between p (p + length q) bs ≡ q → ⊥
+
 -- the sequences that follow one another from p on, all of them, end at q
 pub record Run (t : List Row) (bs : List ℕ) (p q : ℕ) : Type 0 where
   pub low : p ≤ q

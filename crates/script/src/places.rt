@@ -2,7 +2,7 @@
 ghost use mathlib.Core.Path.{_≡_};
 ghost use Prim.Native.Nat.{_≤_};
 ghost use lib.ListN.{length};
-ghost use Rattle.script.specs.Sequences.{sequence, runEnd, Run};
+ghost use Rattle.script.specs.Sequences.{sequence, runEnd, Stands, Run};
 ghost use Rattle.script.specs.WhiteTable.{white};
 ghost use Rattle.std.specs.Orderings.{Decides};
 ghost use Rattle.script.specs.Places.{boundary, charLen, Whole, Spans};
@@ -66,9 +66,19 @@ fn boundary_at(bytes: &[u8], place: usize) -> bool
 
 // The length in bytes of the white-space character at the place; 0 where there is none.
 pub fn white_len(bytes: &[u8], place: usize) -> usize
-    ensures { λ r. ⌜ r ≡ sequence white (now (bytes .entry)) place ⌝ }
+    ensures value { λ r. ⌜ r ≡ sequence white (now (bytes .entry)) place ⌝ }
+    ensures character { λ r. ⌜ Stands white (now (bytes .entry)) place r ⌝ }
 {
-    White.sequence_len(bytes, place)
+    white_character(bytes, place, White.sequence_len(bytes, place))
+}
+
+// Gives the answer back with what it means.
+fn white_character(bytes: &[u8], place: usize, len: usize) -> usize
+    requires { ⌜ len ≡ sequence white (now bytes) place ⌝ }
+    ensures value { λ r. ⌜ r ≡ sequence white (now (bytes .entry)) place ⌝ }
+    ensures character { λ r. ⌜ Stands white (now (bytes .entry)) place r ⌝ }
+{
+    len
 }
 
 // Where the white space that begins at the place ends; the place itself where there is none.
