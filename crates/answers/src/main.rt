@@ -5,6 +5,8 @@
 //! `T N`      whether the kind N is trivia
 //!
 //! HEX is bytes in lower-case hexadecimal, or `-` for none; E and N are decimal.
+#![tactic(auto)]
+
 mod answer;
 mod hex;
 mod number;

@@ -1,4 +1,6 @@
 // Examples: evaluated from the definitions in one theorem, and run as tests.
+#![tactic(auto)]
+
 ghost use Rattle.std.specs.Prelude.{◌≡◌};
 ghost use Rattle.cases.specs.Examples.{Examples};
 ghost use Rattle.cases.specs.TokenExamples.{TokenExamples};

@@ -1,4 +1,6 @@
 //! Lexing: cuts a script into tokens, in columns that the caller lends.
+#![tactic(auto)]
+
 mod complaint;
 mod convert;
 mod cut;

@@ -1,4 +1,6 @@
 // Frontmatter of a script: the shebang, the fences and what stands between them.
+#![tactic(auto)]
+
 mod find;
 mod parse;
 mod reader;

@@ -1,4 +1,6 @@
 // The parser's input: the tokens other than trivia, in columns that the caller lends.
+#![tactic(auto)]
+
 mod ask;
 mod build;
 mod columns;

@@ -1,4 +1,6 @@
 // Token columns of a script: offered, tested once, and read.
+#![tactic(auto)]
+
 mod error;
 mod lexed;
 mod offer;

@@ -1,4 +1,6 @@
 //! Prints the tokens of the one-file Rust script on standard input, with their errors.
+#![tactic(auto)]
+
 mod columns;
 mod names;
 mod tokens;

@@ -1,4 +1,6 @@
 //! What a raw lexer says of one script: a raw kind, a length and the escape faults at each character boundary.
+#![tactic(auto)]
+
 ghost use Rattle.std.specs.Prelude.{◌≡◌, ℕ, List};
 ghost use Rattle.raw.specs.Answers.{number, token_answer, fault_answer};
 ghost use Rattle.raw.specs.Laws.{Laws};

@@ -1,4 +1,6 @@
 //! Records in order, and the one search through them: how many lie before what is sought.
+#![tactic(auto)]
+
 ghost use Rattle.std.specs.Prelude.{◌≡◌, ℕ, ◌≤◌, Bool, map, length, nat_lt};
 ghost use Rattle.records.specs.Cuts.{halves, bisect, Partitioned, Cuts};
 ghost use Rattle.records.specs.Keys.{Ascending, first, standing, searched};

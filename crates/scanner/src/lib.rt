@@ -1,4 +1,6 @@
 //! A small lexer of our own: a raw source that reads its tokens off the script.
+#![tactic(auto)]
+
 ghost use Rattle.std.specs.Prelude.{◌≡◌, Some, None, MatchResult};
 ghost use Rattle.script.specs.Admission.{refusal, admitted};
 

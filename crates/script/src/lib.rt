@@ -1,4 +1,6 @@
 // Scripts: bytes that are UTF-8 and not too long, their places, and white space.
+#![tactic(auto)]
+
 mod admit;
 mod places;
 mod refusal;

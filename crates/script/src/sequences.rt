@@ -72,7 +72,7 @@ fn white_mark(bytes: &[u8], last: usize) -> usize
 
 // Where the sequences of the table that follow one another from `from` on end.
 pub(crate) fn run_end<T: Table>(table: &T, bytes: &[u8], from: usize) -> usize
-    ensures { result ≡ run_end (rows table.now) bytes.now from }
+    ensures { result ≡ run_end (T.rows table.now) bytes.now from }
 {
     let mut at = from;
     loop {

@@ -1,4 +1,6 @@
 //! Reads a one-file Rust script and prints the parts that it found, or why there are none.
+#![tactic(auto)]
+
 mod command;
 mod report;
 mod trouble;

@@ -1,4 +1,6 @@
 //! The kinds of tokens and nodes of Rust's syntax, as numbers, and the keywords of each edition.
+#![tactic(auto)]
+
 ghost use Rattle.std.specs.Prelude.{◌≡◌};
 ghost use Rattle.syntax_kind.specs.Refusals.{refusal_number};
 ghost use Rattle.syntax_kind.specs.Trivia.{trivia_answer};

@@ -1,4 +1,6 @@
 //! Tapes: a raw lexer's answers for one script, recorded beforehand.
+#![tactic(auto)]
+
 mod mark;
 mod recording;
 mod refusal;

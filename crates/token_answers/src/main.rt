@@ -7,6 +7,8 @@
 //! E is an edition, HEX the script's bytes in lower-case hexadecimal, or `-` for none. TAPE is what a raw lexer says of
 //! the script: `SHEBANG;MARKS`, a length and then `-` or marks joined by `,`. A mark is `PLACE:KIND:LENGTH` or
 //! `PLACE:KIND:LENGTH:FAULTS`, with faults joined by `.`.
+#![tactic(auto)]
+
 mod answer;
 mod columns;
 mod failure;

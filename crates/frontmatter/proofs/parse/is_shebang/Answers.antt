@@ -6,5 +6,5 @@ use Rattle.frontmatter.proofs.parse.is_shebang.Goals as goal
 -- past the end there is no `[`
 pub returns-then-next-bytes : goal.returns-then-next-bytes
 returns-then-next-bytes c =
-    let none = get_or_past c.args.bytes.now c.white-end-next.result 0 (omega arith) in
+    let none = get_or_past c.args.bytes.now c.white_end-next.result 0 (omega arith) in
     grind (arith, nat_tests)

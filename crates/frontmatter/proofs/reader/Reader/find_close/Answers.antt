@@ -21,6 +21,6 @@ loop-n-preserved c =
     let was = c.args.self.now in
     let now = c.loop-n.self in
     let inv = c.loop-n.invariant in
-    let trial = c.in-default.ensures in
+    let trial = c.in_default.ensures in
     not_yet was.bytes.now now.bytes.now was.at now.at c.loop-n.n c.args.dashes inv.0 inv.1 inv.2 c.loop-n-test.true
     c.trial.new.self.bytes.now c.trial.new.self.at trial.after trial.bytes trial.value

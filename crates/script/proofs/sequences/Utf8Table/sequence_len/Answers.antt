@@ -11,5 +11,5 @@ returns-in-238-to-239 c = grind (arith, nat_tests)
 pub returns-in-241-to-243 : goal.returns-in-241-to-243
 returns-in-241-to-243 c = grind (arith, nat_tests)
 
-pub returns-in-default·2 : goal.returns-in-default·2
-returns-in-default·2 c = grind (arith, nat_tests)
+pub returns-in_default-2 : goal.returns-in_default-2
+returns-in_default-2 c = grind (arith, nat_tests)

@@ -9,20 +9,20 @@ returns-then-at-bytes c = white_written c.args.bytes.now c.args.at 0 (grind (ari
 pub returns-in-9-to-13 : goal.returns-in-9-to-13
 returns-in-9-to-13 c = white_written c.args.bytes.now c.args.at 1 (grind (arith, nat_tests))
 
-pub returns-in-9-to-13·2 : goal.returns-in-9-to-13·2
-returns-in-9-to-13·2 c = white_written c.args.bytes.now c.args.at 1 (grind (arith, nat_tests))
+pub returns-in-9-to-13-2 : goal.returns-in-9-to-13-2
+returns-in-9-to-13-2 c = white_written c.args.bytes.now c.args.at 1 (grind (arith, nat_tests))
 
 pub returns-in-194 : goal.returns-in-194
 returns-in-194 c = white_written c.args.bytes.now c.args.at c.two.result (grind (arith, nat_tests))
 
 pub returns-in-226 : goal.returns-in-226
-returns-in-226 c = white_written c.args.bytes.now c.args.at c.white-mark.result (grind (arith, nat_tests))
+returns-in-226 c = white_written c.args.bytes.now c.args.at c.white_mark.result (grind (arith, nat_tests))
 
-pub returns-in-default : goal.returns-in-default
-returns-in-default c = white_written c.args.bytes.now c.args.at 0 (grind (arith, nat_tests))
+pub returns-in_default : goal.returns-in_default
+returns-in_default c = white_written c.args.bytes.now c.args.at 0 (grind (arith, nat_tests))
 
-pub returns-in-default·2 : goal.returns-in-default·2
-returns-in-default·2 c = white_written c.args.bytes.now c.args.at 0 (grind (arith, nat_tests))
+pub returns-in_default-2 : goal.returns-in_default-2
+returns-in_default-2 c = white_written c.args.bytes.now c.args.at 0 (grind (arith, nat_tests))
 
-pub returns-in-default·3 : goal.returns-in-default·3
-returns-in-default·3 c = white_written c.args.bytes.now c.args.at 0 (grind (arith, nat_tests))
+pub returns-in_default-3 : goal.returns-in_default-3
+returns-in_default-3 c = white_written c.args.bytes.now c.args.at 0 (grind (arith, nat_tests))
