@@ -9,6 +9,7 @@ use command::Command;
 use report::Report;
 use std::fmt::Display;
 use std::io::Read;
+use std::process::ExitCode;
 use std::{env, fs};
 use trouble::Trouble;
 
@@ -79,10 +80,12 @@ fn run(rt: &HostRuntime) -> Result<(), Trouble> {
     }
 }
 
-fn main(rt: HostRuntime) -> Result<(), Trouble> {
-    let ended = run(&rt);
-    if let Err(trouble) = &ended {
-        let _ = eprint!(rt; "{trouble}");
+fn main(rt: HostRuntime) -> ExitCode {
+    match run(&rt) {
+        Ok(()) => ExitCode::SUCCESS,
+        Err(trouble) => {
+            let _ = eprint!(rt; "{trouble}");
+            ExitCode::FAILURE
+        }
     }
-    ended
 }

@@ -19,11 +19,11 @@ loop-b-preserved c =
     let i = c.loop-b.b-index in
     let v = c.loop-b.invariant.0 in
     let d = get_or text i 0 - 48 in
-    (v * 10 + d, cap_more v d c.loop-b.n c.with-digit-n.result c.loop-b.invariant.1 c.with-digit-n.ensures, sym (value_more v text i c.loop-b-test.true c.if-b-lt48.false c.if-b-gt57.false) ∙ c.loop-b.invariant.2)
+    (v * 10 + d, cap_more v d c.loop-b.n c.with_digit-n.result c.loop-b.invariant.1 c.with_digit-n.ensures, sym (value_more v text i c.loop-b-test.true c.if-b-lt48.false c.if-b-gt57.false) ∙ c.loop-b.invariant.2)
 
 pub returns : goal.returns
 returns c =
     let text = c.args.text.now in
     let i = c.loop-b.b-index in
     let v = c.loop-b.invariant.0 in
-    number_some text v c.loop-b.n c.if-is-empty.ensures c.loop-b.invariant.1 (sym c.loop-b.invariant.2 ∙ value_past v text i c.loop-b-test.false)
+    number_some text v c.loop-b.n c.if-is_empty.ensures c.loop-b.invariant.1 (sym c.loop-b.invariant.2 ∙ value_past v text i c.loop-b-test.false)

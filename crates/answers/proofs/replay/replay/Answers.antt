@@ -15,12 +15,12 @@ loop-at-preserved c =
     let input = c.args.input.now in
     let out = string_bytes c.loop-at.output in
     let at = c.loop-at.at in
-    let p = c.place-of.result in
+    let p = c.place_of.result in
     let k = c.loop-at.invariant.0 in
-    let placed = c.place-of.ensures.value ∙ ap (place_of 10) (between_to_end input at (length input) (omega arith)) in
+    let placed = c.place_of.ensures.value ∙ ap (place_of 10) (between_to_end input at (length input) (omega arith)) in
     let taken : (at + p) - at ≡ p = omega arith in
-    let grown = c.in-ok-answer-line.ensures ∙ ap (λ m. out ++ line_answer (take m (drop at input))) taken in
-    let more = left_more input out (string_bytes c.answer-line.new.output) at p c.after-line-at.result k c.loop-at-test.true placed grown c.after-line-at.ensures (c.loop-at.invariant.1, c.loop-at.invariant.2, c.loop-at.invariant.3) in
+    let grown = c.in_ok-answer_line.ensures ∙ ap (λ m. out ++ line_answer (take m (drop at input))) taken in
+    let more = left_more input out (string_bytes c.answer_line.new.output) at p c.after_line-at.result k c.loop-at-test.true placed grown c.after_line-at.ensures (c.loop-at.invariant.1, c.loop-at.invariant.2, c.loop-at.invariant.3) in
     (k - 1, more.0, more.1, more.2)
 
 pub returns : goal.returns

@@ -10,11 +10,11 @@ returns-in-Ok g c =
     let m = g.S.RawSource in
     let s = c.args.source.now in
     let col = c.args.errors.now in
-    let ok = asked (m.script s) (m.faults s) c.args.place 0 c.fault-at.result c.requires.0 c.fault-at.ensures ∙ c.in-Ok.is in
-    let is = c.err-to-msg.ensures ∙ first_said c.args.mode (m.faults s c.args.place) c.in-Ok.fault ok in
+    let ok = asked (m.script s) (m.faults s) c.args.place 0 c.fault_at.result c.requires.0 c.fault_at.ensures ∙ c.in-Ok.is in
+    let is = c.err_to_msg.ensures ∙ first_said c.args.mode (m.faults s c.args.place) c.in-Ok.fault ok in
     record {
-      end = c.put-error.ensures.end ∙ ap (λ x. c.args.at + length x) is;
-      errors = c.put-error.ensures.errors ∙ ap (λ x. put c.args.at (map (lex_error c.args.token) x) col) is;
+      end = c.put_error.ensures.end ∙ ap (λ x. c.args.at + length x) is;
+      errors = c.put_error.ensures.errors ∙ ap (λ x. put c.args.at (map (lex_error c.args.token) x) col) is;
     }
 
 pub returns-in-Err : goal.returns-in-Err
@@ -22,7 +22,7 @@ returns-in-Err g c =
     let m = g.S.RawSource in
     let s = c.args.source.now in
     let col = c.args.errors.now in
-    let no = asked (m.script s) (m.faults s) c.args.place 0 c.fault-at.result c.requires.0 c.fault-at.ensures ∙ c.in-Err.is in
+    let no = asked (m.script s) (m.faults s) c.args.place 0 c.fault_at.result c.requires.0 c.fault_at.ensures ∙ c.in-Err.is in
     let is = none_said c.args.mode (m.faults s c.args.place) c.in-Err.field-0 no in
     record {
       end = omega (arith, ap length is);

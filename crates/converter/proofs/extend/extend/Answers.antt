@@ -7,11 +7,11 @@ use Rattle.converter.proofs.Extending.{written_out, reached, begins_there, rest_
 use Rattle.std.proofs.lemmas.List.{length-map}
 use Rattle.converter.proofs.extend.extend.Goals as goal
 
-pub write-errors-written-requires : goal.write-errors-written-requires
-write-errors-written-requires g c =
+pub write_errors-written-requires : goal.write_errors-written-requires
+write_errors-written-requires g c =
     let m = g.S.RawSource in
     let s = c.args.source.now in
-    let p = c.args.so-far.place in
+    let p = c.args.so_far.place in
     let at = c.requires.1 in
     let room = c.requires.3 in
     let on = begins_there (m.script s) p c.requires.2 at.boundary_there in
@@ -22,7 +22,7 @@ pub returns : goal.returns
 returns g c =
     let m = g.S.RawSource in
     let s = c.args.source.now in
-    let sf = c.args.so-far in
+    let sf = c.args.so_far in
     let ks = c.args.kinds.now in
     let ss = c.args.starts.now in
     let es = c.args.errors.now in
@@ -30,17 +30,17 @@ returns g c =
     let room = c.requires.3 in
     let on = begins_there (m.script s) sf.place c.requires.2 at.boundary_there in
     let same = c.bytes-bytes.ensures ∙ c.script-script.ensures in
-    let is = c.token-at-token.ensures.value in
+    let is = c.token_at-token.ensures.value in
     let P : RawToken → Type 0 = λ t. Stands (m.script s) sf.place t (length (m.faults s sf.place)) in
     let stands = subst P (sym is) (cut_stands (m.script s) sf.place (m.laws.admitted s) c.args.edition (m.token s sf.place) (length (m.faults s sf.place)) (m.laws.tokens s sf.place on)) in
     let codes = map (lex_error sf.tokens) (said (m.faults s sf.place) c.settle-complaint.result) in
     record {
-      reached = reached (m.script s) _ ks ss (m.faults s sf.place) sf _ _ _ _ at stands c.complaint-of.ensures c.settle-complaint.ensures c.write-errors-written.ensures.end;
-      held = written_out (m.script s) _ ks ss es _ (m.token s) (m.faults s) (m.shebang s) c.args.edition sf _ _ _ _ _ (omega (arith, at.tokens_few, c.requires.2, room.kinds)) (omega (arith, at.tokens_few, c.requires.2, room.starts)) (omega (arith, at.errors_few, c.requires.2, room.errors)) same is c.kind-of.ensures c.complaint-of.ensures c.settle-complaint.ensures c.write-errors-written.ensures.end c.write-errors-written.ensures.errors;
+      reached = reached (m.script s) _ ks ss (m.faults s sf.place) sf _ _ _ _ at stands c.complaint_of.ensures c.settle-complaint.ensures c.write_errors-written.ensures.end;
+      held = written_out (m.script s) _ ks ss es _ (m.token s) (m.faults s) (m.shebang s) c.args.edition sf _ _ _ _ _ (omega (arith, at.tokens_few, c.requires.2, room.kinds)) (omega (arith, at.tokens_few, c.requires.2, room.starts)) (omega (arith, at.errors_few, c.requires.2, room.errors)) same is c.kind_of.ensures c.complaint_of.ensures c.settle-complaint.ensures c.write_errors-written.ensures.end c.write_errors-written.ensures.errors;
       kept = record {
         kinds = rest_set ks sf.tokens _;
         starts = rest_set ss sf.tokens _;
-        errors = rest_put es _ sf.errors _ codes (omega (arith, at.errors_few, c.requires.2, room.errors)) (omega (arith, c.write-errors-written.ensures.end, length-map (said (m.faults s sf.place) c.settle-complaint.result) (lex_error sf.tokens))) c.write-errors-written.ensures.errors;
+        errors = rest_put es _ sf.errors _ codes (omega (arith, at.errors_few, c.requires.2, room.errors)) (omega (arith, c.write_errors-written.ensures.end, length-map (said (m.faults s sf.place) c.settle-complaint.result) (lex_error sf.tokens))) c.write_errors-written.ensures.errors;
       };
-      more = (omega arith, omega (arith, c.write-errors-written.ensures.end), omega (arith, stands.some));
+      more = (omega arith, omega (arith, c.write_errors-written.ensures.end), omega (arith, stands.some));
     }

@@ -9,7 +9,7 @@ returns g c =
     let m = g.S.RawSource in
     let s = c.args.source.now in
     let p = c.args.place in
-    let value = c.cut.ensures ∙ ap (cut c.args.edition) c.raw-token-at.ensures in
+    let value = c.cut.ensures ∙ ap (cut c.args.edition) c.raw_token_at.ensures in
     let P : RawToken → Type 0 = λ t. Stands (m.script s) p t (length (m.faults s p)) in
     let stands = subst P (sym value) (cut_stands (m.script s) p (m.laws.admitted s) c.args.edition (m.token s p) (length (m.faults s p)) (m.laws.tokens s p c.requires)) in
     record { value = value; some = stands.some; within = stands.within; ends = stands.ends }

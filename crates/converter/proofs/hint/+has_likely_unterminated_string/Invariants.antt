@@ -1,4 +1,4 @@
 use Rattle.converter.proofs.hint.+has_likely_unterminated_string.Given as goal
 
-abbrev pub decreases-has-likely-unterminated-string : goal.decreases-has-likely-unterminated-string
-decreases-has-likely-unterminated-string l = l.looks
+abbrev pub decreases-has_likely_unterminated_string : goal.decreases-has_likely_unterminated_string
+decreases-has_likely_unterminated_string l = l.looks

@@ -12,20 +12,20 @@ use Rattle.converter.proofs.Readable.{readable}
 use Rattle.converter.proofs.Unique.{lexes_only}
 use Rattle.converter.proofs.lexing.convert.Goals as goal
 
-pub overflow-cast-starts : goal.overflow-cast-starts
-overflow-cast-starts g c =
+pub overflow_cast-starts : goal.overflow_cast-starts
+overflow_cast-starts g c =
     let m = g.S.RawSource in
     let s = c.args.source.now in
     let small = admitted_short (m.script s) (m.laws.admitted s) in
-    omega (arith, c.extend-all-end.ensures.end, small)
+    omega (arith, c.extend_all-end.ensures.end, small)
 
 pub returns : goal.returns
 returns g c =
     let m = g.S.RawSource in
     let s = c.args.source.now in
     let es = c.args.errors.now in
-    let h = c.write-head-head in
-    let x = c.extend-all-end in
+    let h = c.write_head-head in
+    let x = c.extend_all-end in
     let kept = x.auto in
     let r = x.ensures.reached in
     let mean = meaning (m.script s) (m.token s) (m.faults s) (m.shebang s) in

@@ -7,8 +7,8 @@ use Rattle.scanner.proofs.Places.{begins_within, closed_within, closed_token, op
 use Rattle.scanner.proofs.comments.block_comment.Goals as goal
 
 -- two bytes stand at the place
-pub overflow-add-place : goal.overflow-add-place
-overflow-add-place c =
+pub overflow_add-place : goal.overflow_add-place
+overflow_add-place c =
     let within = begins_within slash star c.args.script.now.bytes.now c.args.place (omega arith) (omega arith) c.requires in
     omega (arith, ap length c.bytes-bytes.ensures)
 
@@ -28,13 +28,13 @@ span-requires-in-None c =
 pub returns-in-Some : goal.returns-in-Some
 returns-in-Some c =
     c.span.ensures
-    ∙ ap (λ d. span_of (BlockComment d true) c.args.place c.in-Some.end) c.block-style-doc-style.ensures
+    ∙ ap (λ d. span_of (BlockComment d true) c.args.place c.in-Some.end) c.block_style-doc_style.ensures
     ∙ closed_token c.bytes-bytes.result.now c.args.place c.in-Some.end c.in-Some.ensures
     ∙ ap (λ z. block_token (drop c.args.place z)) c.bytes-bytes.ensures
 
 pub returns-in-None : goal.returns-in-None
 returns-in-None c =
     c.span-in-None.ensures
-    ∙ ap (λ d. span_of (BlockComment d false) c.args.place (length c.bytes-bytes.result.now)) c.block-style-doc-style.ensures
+    ∙ ap (λ d. span_of (BlockComment d false) c.args.place (length c.bytes-bytes.result.now)) c.block_style-doc_style.ensures
     ∙ open_token c.bytes-bytes.result.now c.args.place c.in-None.ensures
     ∙ ap (λ z. block_token (drop c.args.place z)) c.bytes-bytes.ensures

@@ -3,8 +3,8 @@ use Rattle.script.proofs.Bounds.{admitted_short}
 use Rattle.scanner.proofs.Places.{char_within}
 use Rattle.scanner.proofs.tokens.character.Goals as goal
 
-pub overflow-add-place : goal.overflow-add-place
-overflow-add-place c =
+pub overflow_add-place : goal.overflow_add-place
+overflow_add-place c =
     let bs = c.args.script.now.bytes.now in
     omega (arith, char_within bs c.args.place c.in-Ok.len c.args.script.now.fits c.requires c.in-Ok.ensures.value, admitted_short bs c.args.script.now.fits)
 

@@ -4,11 +4,11 @@ use Rattle.input.specs.Pushes.{LastMarked}
 use Rattle.input.proofs.Kept.{fits, code_joined, joined_fits, joined_marks}
 use Rattle.input.proofs.columns.Input.mark.Goals as goal
 
-pub invariant-of-self : goal.invariant-of-self
-invariant-of-self c =
+pub invariant_of-self : goal.invariant_of-self
+invariant_of-self c =
     let i = columns_of c.args.self.now in
     let is = code_joined i c.args.word c.args.bit c.requires.1 in
-    (subst (λ d. fits d ≡ true) (sym is) (joined_fits i (c.args.word * 64 + c.args.bit) c.requires.0 c.args.self.now.fits), tt)
+    record { fits = subst (λ d. fits d ≡ true) (sym is) (joined_fits i (c.args.word * 64 + c.args.bit) c.requires.0 c.args.self.now.fits) }
 
 pub returns : goal.returns
 returns c =

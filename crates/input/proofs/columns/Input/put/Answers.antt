@@ -7,16 +7,16 @@ use Rattle.input.proofs.Lent.{lent_self}
 use Rattle.input.proofs.columns.Input.put.Goals as goal
 use Rattle.input.proofs.columns.Input.put.Goals.{then-len-eq0, else-len-eq0}
 
-pub invariant-of-self-4 : goal.invariant-of-self-4
-invariant-of-self-4 c =
+pub invariant_of-self-4 : goal.invariant_of-self-4
+invariant_of-self-4 c =
     let i = columns_of c.args.self.now in
     let begins : columns_of c.if-len-eq0.self ≡ begun i =
     elim c.if-len-eq0.branch [
       | then-len-eq0 w ↦ ap columns_of w.self-is ∙ begun_first i w.if-len-eq0.true
       | else-len-eq0 w ↦ ap columns_of w.self-is ∙ begun_later i w.if-len-eq0.false
     ] in
-    let P : Columns → Type 0 = λ d. fits (over_begun d c.args.kind c.args.contextual-kind c.args.edition i.len) ≡ true in
-    (subst P (sym begins) (pushed_fits i c.args.kind c.args.contextual-kind c.args.edition c.args.self.now.fits c.requires), tt)
+    let P : Columns → Type 0 = λ d. fits (over_begun d c.args.kind c.args.contextual_kind c.args.edition i.len) ≡ true in
+    record { fits = subst P (sym begins) (pushed_fits i c.args.kind c.args.contextual_kind c.args.edition c.args.self.now.fits c.requires) }
 
 pub returns : goal.returns
 returns c =
@@ -26,8 +26,8 @@ returns c =
       | then-len-eq0 w ↦ ap columns_of w.self-is ∙ begun_first i w.if-len-eq0.true
       | else-len-eq0 w ↦ ap columns_of w.self-is ∙ begun_later i w.if-len-eq0.false
     ] in
-    let done : Columns → Columns = λ d. over_begun d c.args.kind c.args.contextual-kind c.args.edition i.len in
-    let G : Columns → Type 0 = λ d. Grown c.args.kind c.args.contextual-kind c.args.edition false i (done d) in
+    let done : Columns → Columns = λ d. over_begun d c.args.kind c.args.contextual_kind c.args.edition i.len in
+    let G : Columns → Type 0 = λ d. Grown c.args.kind c.args.contextual_kind c.args.edition false i (done d) in
     let lent : StillLent c.args.self.now c.if-len-eq0.self =
     elim c.if-len-eq0.branch [
       | then-len-eq0 w ↦ subst (StillLent c.args.self.now) (sym w.self-is) ((refl, refl, refl, refl))
@@ -35,6 +35,6 @@ returns c =
     ] in
     record {
       columns = ap done begins;
-      grown = subst G (sym begins) (pushed_grown i c.args.kind c.args.contextual-kind c.args.edition c.args.self.now.fits c.requires);
+      grown = subst G (sym begins) (pushed_grown i c.args.kind c.args.contextual_kind c.args.edition c.args.self.now.fits c.requires);
       lent = lent;
     }
