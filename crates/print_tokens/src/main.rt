@@ -11,6 +11,7 @@ use raw::RawSource;
 use scanner::Scanner;
 use std::fmt::Display;
 use std::io::Read;
+use std::process::ExitCode;
 use tokens::Tokens;
 use trouble::Trouble;
 
@@ -47,10 +48,12 @@ fn run(rt: &HostRuntime) -> Result<(), Trouble> {
     print_tokens(rt, read_input(rt)?.as_slice())
 }
 
-fn main(rt: HostRuntime) -> Result<(), Trouble> {
-    let ended = run(&rt);
-    if let Err(trouble) = &ended {
-        let _ = eprint!(rt; "{trouble}");
+fn main(rt: HostRuntime) -> ExitCode {
+    match run(&rt) {
+        Ok(()) => ExitCode::SUCCESS,
+        Err(trouble) => {
+            let _ = eprint!(rt; "{trouble}");
+            ExitCode::FAILURE
+        }
     }
-    ended
 }

@@ -1,6 +1,5 @@
 // Why a line has no answer of its kind.
 use std::alloc::{AllocError, AllocFailed};
-use std::fmt;
 
 #[derive(Clone, Copy)]
 pub enum Failure {
@@ -19,13 +18,6 @@ impl From<AllocError> for Failure {
 
 impl<T: Drop> From<AllocFailed<T>> for Failure {
     fn from(_: AllocFailed<T>) -> Failure {
-        Failure::OutOfMemory
-    }
-}
-
-// Writing to a string fails only for want of memory.
-impl From<fmt::Error> for Failure {
-    fn from(_: fmt::Error) -> Failure {
         Failure::OutOfMemory
     }
 }

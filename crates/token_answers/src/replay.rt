@@ -4,7 +4,6 @@ use crate::failure::Failure;
 use crate::question::Question;
 use crate::text::write_refusal;
 use std::alloc::{AllocError, Global};
-use std::fmt::Write;
 use std::io;
 
 fn read_and_answer(heap: Global, line: &str, output: &mut String) -> Result<(), Failure> {
@@ -16,7 +15,7 @@ fn read_and_answer(heap: Global, line: &str, output: &mut String) -> Result<(), 
 fn answer_line(heap: Global, line: &str, output: &mut String) -> io::Result<()> {
     match read_and_answer(heap, line, output) {
         Ok(()) => (),
-        Err(Failure::Malformed) => output.write_str("malformed")?,
+        Err(Failure::Malformed) => output.push_str("malformed")?,
         Err(Failure::Refused { number, value }) => write_refusal(number, value, output)?,
         Err(Failure::OutOfMemory) => return Err(AllocError.into()),
     }

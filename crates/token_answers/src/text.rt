@@ -4,8 +4,7 @@ ghost use Rattle.lexed_str.specs.Columns.{tokens};
 
 use input::Input;
 use lexed_str::{LexError, LexedStr};
-use std::fmt;
-use std::fmt::Write;
+use std::alloc::AllocError;
 use syntax_kind::kinds::EOF;
 
 // The columns that are printed as rows of numbers.
@@ -21,7 +20,7 @@ enum InputColumn {
     ContextualKinds,
 }
 
-fn put(output: &mut String, n: usize, sign: &str) -> fmt::Result {
+fn put(output: &mut String, n: usize, sign: &str) -> Result<(), AllocError> {
     write!(output, "{n}{sign}")
 }
 
@@ -47,14 +46,14 @@ fn entry_of(lexed: &LexedStr, column: Column, i: usize) -> usize
     }
 }
 
-fn write_column(lexed: &LexedStr, column: Column, output: &mut String) -> fmt::Result {
+fn write_column(lexed: &LexedStr, column: Column, output: &mut String) -> Result<(), AllocError> {
     for i in 0..lexed.len() {
         put(output, entry_of(lexed, column, i), ",")?;
     }
     put(output, entry_of(lexed, column, lexed.len()), "|")
 }
 
-fn write_errors(errors: &[LexError], output: &mut String) -> fmt::Result {
+fn write_errors(errors: &[LexError], output: &mut String) -> Result<(), AllocError> {
     for (i, error) in errors.iter().enumerate() {
         put(output, error.token as usize, ":")?;
         put(output, error.code as usize, sign_after(i, errors.len(), ""))?;
@@ -62,11 +61,11 @@ fn write_errors(errors: &[LexError], output: &mut String) -> fmt::Result {
     Ok(())
 }
 
-pub fn write_columns(lexed: &LexedStr, output: &mut String) -> fmt::Result {
+pub fn write_columns(lexed: &LexedStr, output: &mut String) -> Result<(), AllocError> {
     write_column(lexed, Column::Kinds, output)?;
     write_column(lexed, Column::Starts, output)?;
     if lexed.errors().is_empty() {
-        return output.write_str("-");
+        return output.push_str("-");
     }
     write_errors(lexed.errors(), output)
 }
@@ -78,7 +77,11 @@ fn input_entry_of(input: &Input, column: InputColumn, i: usize) -> usize {
     }
 }
 
-fn write_input_column(input: &Input, column: InputColumn, output: &mut String) -> fmt::Result {
+fn write_input_column(
+    input: &Input,
+    column: InputColumn,
+    output: &mut String,
+) -> Result<(), AllocError> {
     let len = input.len();
     for i in 0..len {
         put(
@@ -91,7 +94,7 @@ fn write_input_column(input: &Input, column: InputColumn, output: &mut String) -
 }
 
 // A mark for each entry.
-fn write_joint(input: &Input, output: &mut String) -> fmt::Result {
+fn write_joint(input: &Input, output: &mut String) -> Result<(), AllocError> {
     for i in 0..input.len() {
         let joint = matches!(input.is_joint(i), Ok(true));
         put(output, usize::from(joint), "")?;
@@ -99,24 +102,31 @@ fn write_joint(input: &Input, output: &mut String) -> fmt::Result {
     Ok(())
 }
 
-pub fn write_input(input: &Input, output: &mut String) -> fmt::Result {
+pub fn write_input(input: &Input, output: &mut String) -> Result<(), AllocError> {
     if input.len() == 0 {
-        return output.write_str("-|-|-");
+        return output.push_str("-|-|-");
     }
     write_input_column(input, InputColumn::Kinds, output)?;
     write_input_column(input, InputColumn::ContextualKinds, output)?;
     write_joint(input, output)
 }
 
-pub fn write_single(token: Option<(u16, Option<u16>)>, output: &mut String) -> fmt::Result {
+pub fn write_single(
+    token: Option<(u16, Option<u16>)>,
+    output: &mut String,
+) -> Result<(), AllocError> {
     match token {
-        None => output.write_str("-"),
+        None => output.push_str("-"),
         Some((kind, None)) => put(output, kind as usize, ""),
         Some((kind, Some(code))) => write!(output, "{kind}:{code}"),
     }
 }
 
-pub fn write_refusal(number: u8, value: Option<usize>, output: &mut String) -> fmt::Result {
+pub fn write_refusal(
+    number: u8,
+    value: Option<usize>,
+    output: &mut String,
+) -> Result<(), AllocError> {
     match value {
         Some(value) => write!(output, "refused {number} {value}"),
         None => write!(output, "refused {number}"),

@@ -5,10 +5,10 @@ use Rattle.converter.proofs.hint.+has_likely_unterminated_string.Goals as goal
 pub returns-then-looks-eq0 : goal.returns-then-looks-eq0
 returns-then-looks-eq0 t c = hint_none c.args.script.now c.args.kinds.now c.args.starts.now c.args.looks c.args.count c.args.end c.then-looks-eq0.either
 
-pub returns-then-is-suspect : goal.returns-then-is-suspect
-returns-then-is-suspect t c =
-    hint_here c.args.script.now c.args.kinds.now c.args.starts.now c.args.looks c.args.count c.args.end (omega arith) (omega arith) (sym c.if-is-suspect.ensures)
+pub returns-then-is_suspect : goal.returns-then-is_suspect
+returns-then-is_suspect t c =
+    hint_here c.args.script.now c.args.kinds.now c.args.starts.now c.args.looks c.args.count c.args.end (omega arith) (omega arith) (sym c.if-is_suspect.ensures)
 
 pub returns : goal.returns
 returns t c =
-    c.has-likely-unterminated-string.ensures ∙ hint_later c.args.script.now c.args.kinds.now c.args.starts.now c.args.looks c.args.count c.args.end (omega arith) (omega arith) (sym c.if-is-suspect.ensures)
+    c.has_likely_unterminated_string.ensures ∙ hint_later c.args.script.now c.args.kinds.now c.args.starts.now c.args.looks c.args.count c.args.end (omega arith) (omega arith) (sym c.if-is_suspect.ensures)
