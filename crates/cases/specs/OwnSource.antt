@@ -1,5 +1,5 @@
 -- A raw source of one's own: each character is a token of no known kind. It keeps the laws of a source.
-use Rattle.std.specs.Prelude.{◌≡◌, ℕ, List, [], refl}
+use Rattle.std.specs.Prelude.{ℕ, List, [], refl}
 use Rattle.script.specs.Sequences.{sequence}
 use Rattle.script.specs.Utf8Table.{utf8}
 use Rattle.raw.specs.Laws.{Laws}

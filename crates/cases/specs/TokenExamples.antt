@@ -1,5 +1,5 @@
 -- Worked examples on tokens, evaluated from the definitions that the contracts cite.
-use Rattle.std.specs.Prelude.{◌≡◌, ℕ, false, List, [], ◌∷◌, map, Some, None, Ok, codes}
+use Rattle.std.specs.Prelude.{◌≡◌, false, [], ◌∷◌, map, Some, None, Ok, codes}
 use Rattle.raw.specs.declared.kinds.RawKind.TheVariants.{GuardedStrPrefix}
 use Rattle.tape.specs.Meaning.{token_at as recorded}
 use Rattle.scanner.specs.Tokens.{token_at as scanned}

@@ -1,5 +1,5 @@
 -- Lexing comes to the script's end, and what it gives then keeps the law of lexing.
-use Rattle.std.proofs.Common.{◌≡◌, ℕ, zero, suc, ◌+◌, ◌-◌, ◌<◌, ◌≤◌, Bool, true, false, cond, ltb, List, [], ◌∷◌, ◌++◌, map, length, get_or, take, Some, None, Option, sym, refl, ap, ◌∙◌, subst, ⊎_elim, arith, ltb-false, ltb-true, lt-ltb}
+use Rattle.std.proofs.Common.{◌≡◌, ℕ, zero, suc, ◌+◌, ◌-◌, ◌≤◌, Bool, true, false, cond, ltb, List, [], ◌∷◌, ◌++◌, map, length, get_or, Some, None, Option, sym, refl, ap, ◌∙◌, subst, arith, ltb-false, ltb-true, lt-ltb}
 use Rattle.std.proofs.lemmas.List.{append-nil, length-append, take_all, take-append-le}
 use Rattle.script.specs.Admission.{admits}
 use Rattle.script.specs.Places.{boundary}
@@ -8,7 +8,6 @@ use Rattle.frontmatter.specs.Parsed.{parsed}
 use Rattle.frontmatter.proofs.Right.{sound}
 use Rattle.raw.specs.Answers.{begins}
 use Rattle.raw.specs.Laws.{keeps, shebang_keeps}
-use Rattle.lexed_str.specs.declared.error.LexError.{LexError}
 use Rattle.converter.specs.declared.progress.Head.{Head}
 use Rattle.converter.specs.Columns.{HeadFits, EndsPast, end_or}
 use Rattle.converter.specs.Lexing.{Lexed, lex_error, kind_at, cut_at, codes_at, extend, extend_all, head_ends, head, head_of, lexed}

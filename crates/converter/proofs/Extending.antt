@@ -1,9 +1,9 @@
 -- One token more in the columns is one token more of the definition.
-use Rattle.std.proofs.Common.{◌≡◌, ℕ, zero, suc, ◌+◌, ◌-◌, ◌<◌, ◌≤◌, Bool, true, false, cond, ◌||◌, List, [], ◌∷◌, ◌++◌, map, length, get_or, take, drop, set, Ok, Err, Result, sym, refl, ap, ◌∙◌, subst, arith}
+use Rattle.std.proofs.Common.{◌≡◌, ℕ, zero, suc, ◌+◌, ◌<◌, ◌≤◌, true, cond, ◌||◌, List, [], ◌∷◌, ◌++◌, map, length, get_or, take, drop, set, Ok, Err, Result, sym, refl, ap, ◌∙◌, arith}
 use Rattle.std.specs.List.{between}
 use Rattle.std.proofs.lemmas.Bool.Decides.{nat_tests}
 use Rattle.script.specs.Places.{boundary}
-use Rattle.std.proofs.lemmas.List.{take_more_set, drop-set-lt, drop-drop, length-take-le, get_or-take, length-map}
+use Rattle.std.proofs.lemmas.List.{take_more_set, drop-set-lt, length-take-le, get_or-take, length-map}
 use Rattle.raw.specs.Answers.{begins, token_answer}
 use Rattle.raw.specs.declared.Refusal.{Refusal}
 use Rattle.raw.specs.declared.Refusal.TheVariants.{NoToken}

@@ -1,9 +1,9 @@
 -- The columns at the end.
-use Rattle.std.proofs.Common.{◌≡◌, ℕ, zero, suc, ◌+◌, ◌-◌, ◌<◌, ◌≤◌, List, [], ◌∷◌, ◌++◌, length, take, drop, set, sym, refl, ap, ◌∙◌, subst, arith}
+use Rattle.std.proofs.Common.{◌≡◌, ℕ, suc, ◌+◌, ◌-◌, ◌<◌, ◌≤◌, List, [], ◌∷◌, ◌++◌, length, take, drop, set, sym, ap, ◌∙◌, arith}
 use Rattle.std.proofs.lemmas.List.{append_assoc, take-append-drop, length-append, length-take-le, set_split, drop-drop}
 use Rattle.lexed_str.specs.declared.error.LexError.{LexError}
 use Rattle.converter.specs.declared.progress.Progress.{Progress}
-use Rattle.converter.specs.Columns.{over, held, Reached, Kept}
+use Rattle.converter.specs.Columns.{over, held}
 use Rattle.converter.specs.Lexing.{Lexed, lexed, extend_all, head_of}
 use Rattle.converter.specs.Meaning.{Meaning}
 

@@ -1,13 +1,11 @@
 -- The fronts of the columns that lexing wrote keep its law, and no others do.
-use Rattle.std.proofs.Common.{◌≡◌, ℕ, ◌+◌, ◌<◌, ◌≤◌, List, [], ◌∷◌, ◌++◌, length, take, drop, Ok, Err, sym, refl, ap, ◌∙◌, subst, arith}
-use Rattle.std.proofs.lemmas.List.{length-append, take_at}
+use Rattle.std.proofs.Common.{◌≡◌, ℕ, ◌+◌, List, length, take, drop, sym, ap, ◌∙◌, subst, arith}
+use Rattle.std.proofs.lemmas.List.{take_at}
 use Rattle.lexed_str.specs.declared.error.LexError.{LexError}
 use Rattle.converter.specs.declared.lexing.Counts.{Counts}
 use Rattle.converter.specs.Columns.{over}
-use Rattle.converter.specs.Lexing.{Lexed, lexed}
-use Rattle.converter.specs.Lexes.{Lexes, Keeps}
+use Rattle.converter.specs.Lexing.{lexed}
 use Rattle.converter.specs.Meaning.{Meaning}
-use Rattle.converter.specs.Names.{EOF}
 use Rattle.converter.specs.Outcome.{kinds_of, starts_of}
 use Rattle.converter.proofs.Ends.{Lawful, lexes}
 

@@ -1,15 +1,14 @@
 -- The head in the columns.
-use Rattle.std.proofs.Common.{◌≡◌, ℕ, zero, suc, ◌+◌, ◌<◌, ◌≤◌, true, List, [], ◌∷◌, ◌++◌, length, take, drop, set, Some, None, Option, sym, refl, ap, ◌∙◌, subst, arith}
+use Rattle.std.proofs.Common.{◌≡◌, ℕ, ◌+◌, ◌<◌, ◌≤◌, true, List, [], ◌∷◌, ◌++◌, length, take, set, Some, None, Option, sym, refl, ap, ◌∙◌, subst, arith}
 use Rattle.std.proofs.lemmas.List.{take_more_set}
 use Rattle.script.specs.Admission.{admits}
-use Rattle.script.specs.Places.{boundary}
 use Rattle.script.proofs.Bounds.{boundary_start}
 use Rattle.lexed_str.specs.declared.error.LexError.{LexError}
 use Rattle.converter.specs.declared.progress.Progress.{Progress}
 use Rattle.converter.specs.Columns.{held, progress, up_to, Reached, Kept, EndsPast, end_or, HeadFits}
 use Rattle.converter.specs.declared.progress.Head.{Head}
 use Rattle.converter.specs.Names.{SHEBANG, FRONTMATTER}
-use Rattle.converter.specs.Lexing.{Lexed, nothing, add, add_up_to, head}
+use Rattle.converter.specs.Lexing.{nothing, add, add_up_to, head}
 use Rattle.converter.proofs.Extending.{rest_set}
 use Rattle.converter.proofs.Running.{kept_on}
 

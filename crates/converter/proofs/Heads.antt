@@ -1,5 +1,5 @@
 -- The head's tokens stand one after the other, at boundaries.
-use Rattle.std.proofs.Common.{◌≡◌, ℕ, zero, suc, ◌+◌, ◌-◌, ◌<◌, ◌≤◌, Bool, true, false, cond, ◌&&◌, ◌||◌, eqb, leb, ◌⊎◌, List, length, get_or, Some, None, Ok, Err, Option, sym, refl, ap, ◌∙◌, subst, inl, inr, ⊎_elim, arith, eqb-true, leb-true}
+use Rattle.std.proofs.Common.{◌≡◌, ℕ, ◌+◌, ◌<◌, ◌≤◌, true, false, ◌&&◌, ◌||◌, eqb, leb, List, length, Some, None, Ok, Err, Option, sym, ap, ◌∙◌, subst, ⊎_elim, arith, leb-true}
 use Rattle.std.proofs.lemmas.Bool.{and_parts, cond_both}
 use Rattle.script.specs.Admission.{admits}
 use Rattle.script.specs.Places.{boundary}
@@ -8,7 +8,7 @@ use Rattle.frontmatter.specs.declared.source.Span.{Span}
 use Rattle.frontmatter.specs.declared.source.ScriptSource.{ScriptSource}
 use Rattle.frontmatter.specs.Fences.{NextLine}
 use Rattle.frontmatter.specs.declared.source.Fault.{Fault}
-use Rattle.frontmatter.specs.Parsed.{Answer, span, parsed}
+use Rattle.frontmatter.specs.Parsed.{Answer, parsed}
 use Rattle.frontmatter.specs.Reads.{Shebang, Plain, Fenced, Reads, size}
 use Rattle.raw.specs.Laws.{shebang_keeps}
 use Rattle.converter.specs.declared.progress.Head.{Head}

@@ -1,5 +1,5 @@
 -- One turn of the search for bytes.
-use Rattle.std.proofs.Common.{◌≡◌, ℕ, zero, suc, ◌+◌, ◌-◌, ◌<◌, ◌≤◌, Bool, true, false, ◌||◌, ◌⊎◌, List, get_or, sym, refl, ap, ◌∙◌, ⊎_elim, arith}
+use Rattle.std.proofs.Common.{◌≡◌, ℕ, zero, suc, ◌+◌, ◌-◌, ◌<◌, Bool, true, false, ◌||◌, ◌⊎◌, List, get_or, sym, refl, ap, ◌∙◌, ⊎_elim, arith}
 use Rattle.converter.specs.Hints.{any_from, suspect, hint}
 
 any_more : (test : ℕ → Bool) (end i : ℕ) → i < end → any_from test (end - i) i ≡ (test i || any_from test (end - (i + 1)) (i + 1))

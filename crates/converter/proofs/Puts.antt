@@ -1,7 +1,7 @@
 -- Columns, written piece by piece.
-use Rattle.std.proofs.Common.{◌≡◌, ℕ, zero, suc, ◌+◌, ◌<◌, ◌≤◌, List, [], ◌∷◌, ◌++◌, map, length, take, drop, set, sym, refl, ap, ◌∙◌, arith}
+use Rattle.std.proofs.Common.{◌≡◌, ℕ, suc, ◌+◌, ◌<◌, ◌≤◌, List, [], ◌∷◌, ◌++◌, length, take, drop, set, sym, ap, ◌∙◌, arith}
 use Rattle.std.proofs.lemmas.List.{append-nil, append_assoc, take-append-drop, length-append, length-take-le, take_at, drop_at, drop-drop, set_split}
-use Rattle.converter.specs.Columns.{put, over}
+use Rattle.converter.specs.Columns.{put}
 
 module _ {X : Type 0} where
   pub put_none : (n : ℕ) (col : List X) → put n [] col ≡ col

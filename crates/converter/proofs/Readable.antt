@@ -1,22 +1,19 @@
 -- What lexing gives may be offered for reading.
-use Rattle.std.proofs.Common.{◌≡◌, ℕ, zero, suc, ◌+◌, ◌-◌, ◌<◌, ◌≤◌, Bool, true, false, cond, ◌&&◌, ltb, leb, ◌⊎◌, List, [], ◌∷◌, ◌++◌, map, length, get_or, take, Some, None, Option, sym, refl, ap, ◌∙◌, subst, inl, inr, ⊎_elim, arith}
+use Rattle.std.proofs.Common.{◌≡◌, ℕ, zero, suc, ◌+◌, ◌-◌, ◌<◌, ◌≤◌, true, ◌&&◌, ltb, leb, ◌⊎◌, List, [], ◌∷◌, ◌++◌, map, length, get_or, Some, None, Option, sym, refl, ap, ◌∙◌, subst, inl, inr, ⊎_elim, arith}
 use Rattle.std.proofs.lemmas.List.{get_or-take, get_or_append_left, get_or-append-add, length-append}
 use Rattle.std.proofs.lemmas.Bool.{and_parts, cases_lt, cond_both}
 use Rattle.script.specs.Places.{boundary}
 use Rattle.script.proofs.Bounds.{boundary_start}
-use Rattle.raw.specs.Answers.{begins}
 use Rattle.raw.specs.Forms.{form}
 use Rattle.raw.specs.Laws.{spelled}
 use Rattle.lexed_str.specs.declared.error.LexError.{LexError}
 use Rattle.lexed_str.specs.Columns.{Columns, token_at}
-use Rattle.converter.specs.Columns.{EndsPast, end_or, HeadFits}
-use Rattle.converter.specs.Lexing.{lex_error, kind_at, end_at, text_at, codes_at, head, head_ends, head_of}
+use Rattle.converter.specs.Columns.{EndsPast, end_or}
+use Rattle.converter.specs.Lexing.{lex_error, text_at, codes_at, head, head_ends, head_of}
 use Rattle.converter.specs.Lexes.{Given, errors_at, errors_up_to, Lexes}
 use Rattle.converter.specs.Meaning.{Meaning}
-use Rattle.converter.proofs.Cutting.{Stands}
 use Rattle.converter.proofs.Ends.{Lawful, stands_at, the_head}
 use Rattle.converter.proofs.Proper.{Proper, cut_proper}
-use Rattle.converter.proofs.Unique.{before_end}
 use Rattle.frontmatter.specs.Parsed.{parsed}
 
 abbrev none : LexError

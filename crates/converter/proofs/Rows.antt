@@ -1,15 +1,13 @@
 -- What lexing gives keeps the law of lexing.
-use Rattle.std.proofs.Common.{◌≡◌, ℕ, zero, suc, ◌+◌, ◌-◌, ◌<◌, ◌≤◌, Bool, true, false, cond, ◌||◌, eqb, ltb, ◌⊎◌, List, [], ◌∷◌, ◌++◌, map, length, get_or, take, sym, refl, ap, ◌∙◌, subst, ⊎_elim, arith, le-ltb, lt-ltb}
-use Rattle.std.proofs.lemmas.List.{append-nil, append_assoc, length-append, get_or_append_left, get_or-append-add, take-append-le, take_all, length-take-le}
-use Rattle.std.proofs.lemmas.Bool.{cases_lt, cases_order}
+use Rattle.std.proofs.Common.{◌≡◌, ℕ, zero, suc, ◌+◌, ◌<◌, ◌≤◌, true, false, cond, ◌||◌, ltb, List, [], ◌∷◌, ◌++◌, map, length, get_or, take, sym, refl, ap, ◌∙◌, subst, ⊎_elim, arith, le-ltb}
+use Rattle.std.proofs.lemmas.List.{append-nil, length-append, get_or_append_left, get_or-append-add, take-append-le}
+use Rattle.std.proofs.lemmas.Bool.{cases_lt}
 use Rattle.raw.specs.Answers.{begins}
-use Rattle.lexed_str.specs.declared.error.LexError.{LexError}
 use Rattle.converter.specs.Hints.{suspect, hint}
 use Rattle.converter.specs.Codes.{codes_of}
-use Rattle.converter.specs.Lexing.{Lexed, lex_error, kind_at, end_at, text_at, cut_at, codes_at, add, extend, extend_all, head_of, lexed}
-use Rattle.converter.specs.Lexes.{Given, errors_at, errors_up_to, Lexes}
+use Rattle.converter.specs.Lexing.{Lexed, lex_error, kind_at, end_at, text_at, cut_at, codes_at, extend, head_of}
+use Rattle.converter.specs.Lexes.{Given, errors_at, errors_up_to}
 use Rattle.converter.specs.Meaning.{Meaning}
-use Rattle.converter.specs.Names.{EOF}
 
 -- an entry more changes nothing before it
 pub hint_more : (bs ks ss ks' ss' : List ℕ) (looks m end : ℕ) → m ≤ length ks → m ≤ length ss → hint bs (ks ++ ks') (ss ++ ss') looks m end ≡ hint bs ks ss looks m end

@@ -1,9 +1,9 @@
 -- The loop over the script, turn by turn.
-use Rattle.std.proofs.Common.{◌≡◌, ℕ, zero, suc, ◌+◌, ◌-◌, ◌<◌, ◌≤◌, Bool, true, false, cond, ltb, List, [], ◌∷◌, ◌++◌, length, take, drop, sym, refl, ap, ◌∙◌, subst, arith, le-ltb, lt-ltb}
+use Rattle.std.proofs.Common.{◌≡◌, ℕ, zero, suc, ◌+◌, ◌-◌, ◌<◌, ◌≤◌, cond, List, length, drop, sym, refl, ap, ◌∙◌, arith, le-ltb, lt-ltb}
 use Rattle.std.proofs.lemmas.List.{drop-drop}
 use Rattle.lexed_str.specs.declared.error.LexError.{LexError}
 use Rattle.converter.specs.declared.progress.Progress.{Progress}
-use Rattle.converter.specs.Columns.{held, Reached, Room, Kept}
+use Rattle.converter.specs.Columns.{held, Reached, Kept}
 use Rattle.converter.specs.Lexing.{Lexed, extend, extend_all}
 use Rattle.converter.specs.Meaning.{Meaning}
 

@@ -1,6 +1,6 @@
 -- The last code of a token, and scripts that are one token.
-use Rattle.std.proofs.Common.{◌≡◌, ℕ, zero, suc, ◌+◌, ◌-◌, ◌<◌, ◌≤◌, Bool, true, false, cond, ◌&&◌, eqb, ltb, List, [], ◌∷◌, ◌++◌, map, length, drop, Some, None, Ok, Err, Option, sym, refl, ap, ◌∙◌, subst, arith, ltb-true, lt-ltb, eq-eqb, eqb-true}
-use Rattle.std.proofs.lemmas.Bool.{and_parts, cond_both, cases_Bool, both_ways}
+use Rattle.std.proofs.Common.{◌≡◌, ℕ, ◌+◌, ◌<◌, Bool, true, false, cond, ◌&&◌, eqb, ltb, List, [], ◌∷◌, ◌++◌, map, length, drop, Some, None, Ok, Err, Option, sym, refl, ap, ◌∙◌, arith, ltb-true, lt-ltb, eq-eqb, eqb-true}
+use Rattle.std.proofs.lemmas.Bool.{and_parts, both_ways}
 use Rattle.script.specs.Admission.{admits}
 use Rattle.script.proofs.Bounds.{boundary_start}
 use Rattle.raw.specs.Answers.{begins, fault}
@@ -15,7 +15,7 @@ use Rattle.converter.specs.declared.complaint.Complaint.{Complaint}
 use Rattle.converter.specs.Codes.{listed, messages, complaint_of, settled, said}
 use Rattle.converter.specs.Hints.{hint}
 use Rattle.converter.specs.Kinds.{kind_of}
-use Rattle.converter.specs.Lexing.{lex_error, nothing, cut_at, kind_at, codes_at, extend}
+use Rattle.converter.specs.Lexing.{lex_error, cut_at, kind_at, codes_at}
 use Rattle.converter.specs.Meaning.{Meaning}
 use Rattle.converter.specs.Single.{last_from, last_of, later, whole, single, Alone, Single}
 use Rattle.converter.proofs.Extending.{begins_there}

@@ -1,14 +1,13 @@
 -- No other columns keep the law of lexing.
-use Rattle.std.proofs.Common.{◌≡◌, ℕ, zero, suc, ◌+◌, ◌<◌, ◌≤◌, Bool, true, ◌&&◌, ltb, ◌⊎◌, List, [], ◌∷◌, ◌++◌, length, get_or, take, sym, refl, ap, ◌∙◌, subst, ⊎_elim, arith, ltb-true}
+use Rattle.std.proofs.Common.{◌≡◌, ℕ, zero, suc, ◌+◌, ◌<◌, ◌≤◌, true, ltb, List, [], ◌∷◌, ◌++◌, length, get_or, take, sym, ap, ◌∙◌, ⊎_elim, arith, ltb-true}
 use Rattle.std.proofs.lemmas.List.{get_or-take, ext_get_or}
 use Rattle.std.proofs.lemmas.Bool.{and_parts, cases_lt}
 use Rattle.script.specs.Places.{boundary}
 use Rattle.raw.specs.Answers.{begins}
 use Rattle.lexed_str.specs.declared.error.LexError.{LexError}
 use Rattle.converter.specs.Lexing.{kind_at, end_at, head_of}
-use Rattle.converter.specs.Lexes.{Given, errors_up_to, Lexes}
+use Rattle.converter.specs.Lexes.{errors_up_to, Lexes}
 use Rattle.converter.specs.Meaning.{Meaning}
-use Rattle.converter.specs.Names.{EOF}
 
 -- lists with the same front have the same entries there
 same_front : (xs ys front : List ℕ) (n i : ℕ) → take n xs ≡ front → take n ys ≡ front → i < n → get_or xs i 0 ≡ get_or ys i 0

@@ -1,5 +1,5 @@
 -- What is said of a token: the codes of its messages.
-use Rattle.std.specs.Prelude.{ℕ, Bool, true, false, cond, List, [], ◌∷◌, ◌++◌, Some, None, codes, Option}
+use Rattle.std.specs.Prelude.{ℕ, Bool, cond, List, [], ◌∷◌, ◌++◌, Some, None, codes, Option}
 use Rattle.std.specs.Str.{bytes_eq}
 use Rattle.raw.specs.declared.kinds.EscapeError.{EscapeError}
 use Rattle.raw.specs.declared.kinds.LiteralKind.{LiteralKind}

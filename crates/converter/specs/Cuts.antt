@@ -1,5 +1,5 @@
 -- The editions' cuts: raw forms that an edition does not have yet are cut back to what it has instead.
-use Rattle.std.specs.Prelude.{ℕ, Bool, true, false, cond, nat_lt}
+use Rattle.std.specs.Prelude.{ℕ, false, cond, nat_lt}
 use Rattle.raw.specs.Forms.{Form, form, guarded_prefix, c_string, raw_c_string, raw_lifetime, unknown_prefix, unknown_lifetime, end_of_file, ordinary}
 use Rattle.raw.specs.declared.kinds.RawToken.{RawToken}
 use Rattle.raw.specs.declared.kinds.RawKind.{RawKind}

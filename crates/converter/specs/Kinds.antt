@@ -1,5 +1,5 @@
 -- The kind of a token, by its raw kind and its text.
-use Rattle.std.specs.Prelude.{ℕ, Bool, cond, ◌&&◌, List, [], ◌∷◌, length, Some, None, Option, ◌==◌, slice_index}
+use Rattle.std.specs.Prelude.{ℕ, cond, ◌&&◌, List, length, Some, None, Option, ◌==◌, slice_index}
 use Rattle.syntax_kind.specs.Keywords.{look_up, strict}
 use Rattle.raw.specs.declared.kinds.DocStyle.{DocStyle}
 use Rattle.raw.specs.declared.kinds.DocStyle.TheVariants.{Outer, Inner}

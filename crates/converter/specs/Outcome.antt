@@ -1,13 +1,10 @@
 -- What lexing answers, and what the columns hold then.
 use Rattle.std.specs.Prelude.{ℕ, List, [], ◌∷◌, ◌++◌, length, Some, None, Ok, Err, Option, Result}
-use Rattle.lexed_str.specs.declared.error.LexError.{LexError}
 use Rattle.converter.specs.declared.lexing.Counts.{Counts}
 use Rattle.converter.specs.declared.refusal.Refusal.{Refusal}
 use Rattle.converter.specs.Columns.{over}
-use Rattle.converter.specs.Lexing.{Lexed, lexed}
-use Rattle.converter.specs.Meaning.{Meaning}
+use Rattle.converter.specs.Lexing.{Lexed}
 use Rattle.converter.specs.Names.{EOF}
-use Rattle.converter.specs.Refusals.{refusal}
 
 -- refused, or so many tokens and errors
 abbrev pub outcome : Option Refusal → Lexed → Result Counts Refusal

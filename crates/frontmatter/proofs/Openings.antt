@@ -1,15 +1,14 @@
 -- Shebang and opening line against the words of the relation. Assumes nothing.
-use Rattle.std.proofs.Common.{◌≡◌, ℕ, ◌+◌, ◌-◌, ◌<◌, ◌≤◌, Bool, true, false, cond, not, ◌&&◌, eqb, ltb, leb, ◌⊎◌, List, length, get_or, Some, None, Option, sym, refl, ap, ◌∙◌, subst, inl, inr, ⊎_elim, arith}
+use Rattle.std.proofs.Common.{◌≡◌, ℕ, ◌<◌, ◌≤◌, Bool, true, false, cond, not, ◌&&◌, eqb, ltb, List, length, get_or, Some, None, Option, sym, refl, ap, ◌∙◌, ⊎_elim, arith}
 use Rattle.std.proofs.lemmas.List.{get_or_past}
-use Rattle.std.proofs.lemmas.Bool.{eqb-true, eqb-false, eq-eqb, ne_eqb, not-true, not-false, not_from_true, not_from_false, and_parts, and_from, and_left, and_right, cases_lt, cases_Bool, both_ways, ltb-true, lt-ltb, cond-true, cond-false, true≢false}
+use Rattle.std.proofs.lemmas.Bool.{eqb-true, eq-eqb, not-true, not_from_false, and_parts, and_from, cases_lt, cases_Bool, both_ways, ltb-true, lt-ltb, cond-true, cond-false}
 use Rattle.script.specs.Sequences.{run_end}
 use Rattle.script.specs.WhiteTable.{white}
 use Rattle.frontmatter.specs.declared.parse.Opening.{Opening}
 use Rattle.frontmatter.specs.declared.source.Span.{Span}
 use Rattle.frontmatter.specs.Lines.{line_end, next_line, dash_end, blank_end, without_cr}
 use Rattle.frontmatter.specs.Closes.{close_of}
-use Rattle.frontmatter.specs.Parsed.{Answer, span, is_shebang, shebang, body_start, text, unclosed, closing, opening_line, opened, opening, parsed}
-use Rattle.frontmatter.specs.Fences.{Byte, NextLine, Line, LessCr}
+use Rattle.frontmatter.specs.Parsed.{span, is_shebang, shebang, body_start, text, unclosed, closing, opening_line, opening, parsed}
 use Rattle.frontmatter.specs.Reads.{Attribute, HashBang, Shebang, size, Opens, OpeningLine}
 use Rattle.frontmatter.proofs.Words.{dashes_are, dashes_only, line_is, line_only, next_is, next_only, white_is, white_only, blank_is, blank_only, text_is, text_only, cr_is, cr_only, cr_within}
 use Rattle.frontmatter.proofs.Stages.{reads_on}

@@ -1,5 +1,5 @@
 -- The answer for any bytes is the one that the relation allows. Assumes nothing.
-use Rattle.std.proofs.Common.{◌≡◌, ℕ, true, List, Some, None, Ok, Err, Option, Result, sym, refl, ap, ◌∙◌, subst}
+use Rattle.std.proofs.Common.{◌≡◌, ℕ, true, List, Some, None, Ok, Err, Option, Result, ap, ◌∙◌}
 use Rattle.script.specs.Admission.{refusal, admits, Judged}
 use Rattle.script.specs.declared.refusal.Refusal.{Refusal}
 use Rattle.script.proofs.Judges.{judged, judged_only, passed}

@@ -1,6 +1,6 @@
 -- The spans of a right answer lie in order, at boundaries. Assumes nothing.
-use Rattle.std.proofs.Common.{◌≡◌, ℕ, ◌+◌, ◌-◌, ◌<◌, ◌≤◌, true, ◌⊎◌, List, [], ◌∷◌, length, get_or, Some, None, Ok, Err, Option, sym, refl, ap, ◌∙◌, subst, inl, inr, ⊎_elim, arith}
-use Rattle.std.proofs.lemmas.Bool.{cases_lt, cases_eq}
+use Rattle.std.proofs.Common.{◌≡◌, ℕ, ◌+◌, ◌-◌, ◌<◌, ◌≤◌, true, List, [], ◌∷◌, length, get_or, Some, None, Ok, Err, Option, sym, refl, ap, ◌∙◌, subst, inl, inr, ⊎_elim, arith}
+use Rattle.std.proofs.lemmas.Bool.{cases_lt}
 use Rattle.std.specs.List.{AllByRecursion as All}
 use Rattle.script.specs.Admission.{admits}
 use Rattle.script.proofs.Bounds.{boundary_start, boundary_end, ascii_before, ascii_after}
@@ -11,9 +11,9 @@ use Rattle.frontmatter.specs.declared.source.Fault.{Fault}
 use Rattle.frontmatter.specs.declared.source.FaultKind.{FaultKind}
 use Rattle.frontmatter.specs.declared.source.FaultKind.TheVariants.{TooFewDashes, Unclosed, FewerDashes, MoreDashes, TextAfterClose, SecondFence}
 use Rattle.frontmatter.specs.Parsed.{Answer, span}
-use Rattle.frontmatter.specs.Fences.{Byte, Blank, Dashes, Line, NextLine, BlankLines, Begins, Text, LessCr}
-use Rattle.frontmatter.specs.Reads.{size, at_end, Shebang, Opens, OpeningLine, ClosingFence, AfterClose, Closed, Content, Plain, Fenced, Reason, Reads}
-use Rattle.frontmatter.specs.Placed.{Boundary, Sits, also, InOrder, parts, shown, Placed}
+use Rattle.frontmatter.specs.Fences.{Blank, Dashes, Line, NextLine, BlankLines, Begins, Text, LessCr}
+use Rattle.frontmatter.specs.Reads.{size, at_end, Shebang, Opens, ClosingFence, AfterClose, Content, Plain, Fenced, Reason, Reads}
+use Rattle.frontmatter.specs.Placed.{Boundary, Sits, also, InOrder, shown, Placed}
 use Rattle.frontmatter.proofs.Words.{cr_within}
 
 blank_low : (b : ℕ) → Blank b → b < 128

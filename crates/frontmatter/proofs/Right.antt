@@ -1,5 +1,5 @@
 -- The answer is the one that the relation allows. Assumes nothing.
-use Rattle.std.proofs.Common.{◌≡◌, ℕ, zero, suc, ◌+◌, ◌-◌, ◌<◌, ◌≤◌, Bool, true, false, cond, eqb, ltb, leb, ◌⊎◌, List, length, get_or, Some, None, Ok, Err, Option, sym, refl, ap, ◌∙◌, subst, inl, inr, ⊎_elim, arith}
+use Rattle.std.proofs.Common.{◌≡◌, ℕ, zero, suc, ◌+◌, ◌<◌, ◌≤◌, Bool, true, false, cond, eqb, ltb, List, length, Some, None, Ok, Err, Option, sym, refl, ap, ◌∙◌, subst, inl, inr, ⊎_elim, arith}
 use Rattle.std.proofs.lemmas.Bool.{eqb-true, eqb-false, eq-eqb, ne_eqb, cases_lt, cases_eq, ltb-true, ltb-false, lt-ltb, le-ltb, cond-true, cond-false, cond_both}
 use Rattle.frontmatter.specs.declared.parse.Opening.{Opening}
 use Rattle.frontmatter.specs.declared.reader.Close.{Close}
@@ -9,9 +9,9 @@ use Rattle.frontmatter.specs.declared.source.Fault.{Fault}
 use Rattle.frontmatter.specs.declared.source.FaultKind.{FaultKind}
 use Rattle.frontmatter.specs.declared.source.FaultKind.TheVariants.{TooFewDashes, Unclosed, FewerDashes, MoreDashes, TextAfterClose, SecondFence}
 use Rattle.frontmatter.specs.Lines.{line_end, next_line, dash_end, blank_end, close_from, without_cr}
-use Rattle.frontmatter.specs.Closes.{trial_of, close_of}
+use Rattle.frontmatter.specs.Closes.{close_of}
 use Rattle.frontmatter.specs.Parsed.{Answer, span, fault, text, plain, unclosed, fenced, content, close_text, close_line, closed, closing, opening_line, opened, opening, parsed, shebang, body_start}
-use Rattle.frontmatter.specs.Fences.{Byte, Dashes, Line, NextLine, Begins, FirstLine, LessCr}
+use Rattle.frontmatter.specs.Fences.{Byte, Begins, FirstLine}
 use Rattle.frontmatter.specs.Reads.{size, at_end, Opens, OpeningLine, ClosingFence, AfterClose, Closed, Content, Plain, Fenced, Reason, Reads}
 use Rattle.frontmatter.proofs.Words.{dashes_are, dashes_only, line_is, line_only, next_is, next_only, blank_is, blank_only, first_line_is, first_line_only, no_line_is, no_line_only, begins_fewer, text_is, text_only, cr_is, cr_only, cr_within}
 use Rattle.frontmatter.proofs.Closing.{trial_some, close_some}

@@ -1,5 +1,5 @@
 -- A fence of three dashes or more is read on. Assumes nothing.
-use Rattle.std.proofs.Common.{◌≡◌, ℕ, ◌-◌, ◌≤◌, cond, eqb, ltb, List, length, None, Option, sym, refl, ap, ◌∙◌, arith}
+use Rattle.std.proofs.Common.{◌≡◌, ℕ, ◌-◌, ◌≤◌, cond, eqb, ltb, List, length, None, Option, ap, ◌∙◌, arith}
 use Rattle.std.proofs.lemmas.Bool.{cond-false, ne_eqb, le-ltb}
 use Rattle.frontmatter.specs.declared.source.Span.{Span}
 use Rattle.frontmatter.specs.declared.source.FaultKind.TheVariants.{TooFewDashes}

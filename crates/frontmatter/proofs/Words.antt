@@ -1,18 +1,17 @@
 -- The searches against the words of the relation: each finds the one place that fits the description. Assumes nothing.
-use Rattle.std.proofs.Common.{◌≡◌, ℕ, ◌+◌, ◌-◌, ◌<◌, ◌≤◌, min, Bool, true, false, cond, not, ◌&&◌, ◌||◌, eqb, ltb, leb, ◌⊎◌, List, length, get_or, Some, None, Option, sym, refl, ap, ◌∙◌, subst, inl, inr, ⊎_elim, arith}
-use Rattle.std.proofs.lemmas.Bool.{eqb-true, eqb-false, eq-eqb, ne_eqb, not-true, not-false, not_from_true, not_from_false, or_cases, or_parts, or_left, or_right, or_from, and_parts, and_from, leb-true, le-leb, cases_lt, cases_Bool, both_ways, ltb-true, lt-ltb, le-ltb, ltb-false, cond-true, cond-false}
+use Rattle.std.proofs.Common.{◌≡◌, ℕ, ◌+◌, ◌-◌, ◌<◌, ◌≤◌, Bool, true, false, cond, ◌&&◌, ◌||◌, eqb, ltb, leb, List, length, get_or, Some, None, Option, sym, refl, ap, ◌∙◌, inl, inr, ⊎_elim, arith}
+use Rattle.std.proofs.lemmas.Bool.{eqb-true, eqb-false, eq-eqb, ne_eqb, not-true, not-false, not_from_false, or_cases, or_parts, or_from, and_parts, and_from, leb-true, le-leb, cases_lt, both_ways, ltb-true, lt-ltb, le-ltb, ltb-false, cond-true, cond-false}
 use Rattle.script.specs.Sequences.{run_end}
 use Rattle.script.specs.WhiteTable.{white}
 use Rattle.script.proofs.Runs.{after_ge}
 use Rattle.script.proofs.Joins.{run_is, run_only}
 use Rattle.script.proofs.Tables.{white_fair}
-use Rattle.frontmatter.specs.declared.find.Class.{Class}
 use Rattle.frontmatter.specs.declared.find.Class.TheVariants.{LineFeed, NotDash, NotBlank}
 use Rattle.frontmatter.specs.declared.source.Span.{Span}
 use Rattle.frontmatter.specs.Searches.{first, past_last}
 use Rattle.frontmatter.specs.Lines.{is_of, at, line_end, next_line, dash_end, blank_end, closes_at, close_from, without_cr}
 use Rattle.frontmatter.specs.Parsed.{span, text}
-use Rattle.frontmatter.specs.Fences.{Byte, Blank, Each, Dashes, Line, NextLine, WhiteSpace, BlankLines, Begins, FirstLine, Text, LessCr}
+use Rattle.frontmatter.specs.Fences.{Blank, Dashes, Line, NextLine, WhiteSpace, BlankLines, Begins, FirstLine, Text, LessCr}
 use Rattle.frontmatter.proofs.Searched.{first_low, first_high, first_before, first_hit, first_unique, first_nowhere, last_low, last_high, last_hit, last_after, last_unique}
 
 -- the classes of bytes

@@ -1,5 +1,5 @@
 -- The fence that closes a frontmatter, by trials: first with as many dashes as the opening one, then with fewer.
-use Rattle.std.specs.Prelude.{ℕ, zero, suc, Bool, cond, List, length, Some, None, Option, nat_lt}
+use Rattle.std.specs.Prelude.{ℕ, zero, suc, cond, List, length, Some, None, Option, nat_lt}
 use Rattle.frontmatter.specs.declared.reader.Close.{Close}
 use Rattle.frontmatter.specs.Lines.{close_from}
 

@@ -1,7 +1,7 @@
 -- Frontmatter by RFC 3503: a fence opens at a line's start with three dashes or more, closes at the first line that begins
 -- with as many, and nothing but blanks follows it; what stands between is the frontmatter, and what is left is the content.
 -- Each fault has its reason. What the code answers is the one answer that stands in this relation to the script.
-use Rattle.std.specs.Prelude.{◌≡◌, ℕ, ◌+◌, ◌-◌, ◌<◌, ◌≤◌, ◌⊎◌, List, length, get_or, Some, None, Ok, Err, Option}
+use Rattle.std.specs.Prelude.{◌≡◌, ℕ, ◌+◌, ◌-◌, ◌<◌, ◌≤◌, ◌⊎◌, List, length, Some, None, Ok, Err, Option}
 use Rattle.frontmatter.specs.declared.parse.Opening.{Opening}
 use Rattle.frontmatter.specs.declared.source.Span.{Span}
 use Rattle.frontmatter.specs.declared.source.ScriptSource.{ScriptSource}

@@ -1,5 +1,5 @@
 -- Searches over places: the first that passes a test, and the last.
-use Rattle.std.specs.Prelude.{ℕ, zero, suc, ◌+◌, ◌-◌, Bool, cond, List, get_or}
+use Rattle.std.specs.Prelude.{ℕ, zero, suc, ◌+◌, ◌-◌, Bool, cond}
 
 -- the first of the n places from p on that passes; the place after them where none does
 abbrev pub seek : (ℕ → Bool) → ℕ → ℕ → ℕ

@@ -1,5 +1,5 @@
 -- What becomes of the columns when an entry is put in, and when the last is marked.
-use Rattle.std.specs.Prelude.{◌≡◌, ℕ, ◌+◌, ◌-◌, ◌/◌, ◌%◌, Bool, true, cond, ◌&&◌, List, [], ◌∷◌, ◌++◌, length, take, drop, set, Some, None, Ok, Err, Option, Result, ◌==◌, nat_le, nat_lt, slice_index, slice_set}
+use Rattle.std.specs.Prelude.{◌≡◌, ℕ, ◌+◌, ◌-◌, ◌/◌, ◌%◌, Bool, true, cond, ◌&&◌, List, [], ◌∷◌, ◌++◌, length, take, drop, Some, None, Ok, Err, Option, Result, ◌==◌, nat_le, nat_lt, slice_index, slice_set}
 use Rattle.input.specs.declared.refusal.Refusal.{Refusal}
 use Rattle.input.specs.declared.refusal.Refusal.TheVariants.{Edition, Kind, Empty, Full}
 use Rattle.input.specs.Kinds.{last_kind}

@@ -8,7 +8,7 @@ use Rattle.script.proofs.Judges.{judged as script-judged, judged_only as script-
 use Rattle.lexed_str.specs.declared.error.LexError.{LexError}
 use Rattle.lexed_str.specs.declared.refusal.Refusal.{Refusal}
 use Rattle.lexed_str.specs.declared.refusal.Refusal.TheVariants as why
-use Rattle.lexed_str.specs.Columns.{Columns, last_kind, kind_at}
+use Rattle.lexed_str.specs.Columns.{last_kind, kind_at}
 use Rattle.lexed_str.specs.Offering.{kinds_known, columns_fit, accepts, columns_refusal, after, bytes_refusal, held}
 use Rattle.lexed_str.specs.Judging.{Unknown, Judged, JudgedBytes}
 use Rattle.lexed_str.proofs.Below.{below_found, below_fails}

@@ -1,5 +1,5 @@
 -- What stands between `/*` and the end of a block comment tells its form. Assumes nothing.
-use Rattle.std.proofs.Common.{◌≡◌, ℕ, ◌+◌, true, false, cond, not, ◌&&◌, ◌||◌, eqb, ◌≢◌, List, ◌∷◌, ◌++◌, get_or, Some, None, sym, refl, ap, ◌∙◌, subst, ap₂, ⊎_elim}
+use Rattle.std.proofs.Common.{◌≡◌, ℕ, true, false, cond, not, ◌&&◌, ◌||◌, eqb, ◌≢◌, List, ◌∷◌, ◌++◌, get_or, Some, None, sym, refl, ap, ◌∙◌, subst, ap₂, ⊎_elim}
 use Rattle.raw.specs.declared.kinds.DocStyle.TheVariants.{Inner, Outer}
 use Rattle.raw.specs.declared.kinds.RawKind.TheVariants.{BlockComment}
 use Rattle.std.proofs.lemmas.Bool.{false≢true, true≢false, eq-eqb, ne_eqb, cases_eq}

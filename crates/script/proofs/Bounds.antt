@@ -1,5 +1,5 @@
 -- Boundaries and characters of UTF-8: a place is a boundary exactly where whole characters stand before it. Assumes nothing.
-use Rattle.std.proofs.Common.{◌≡◌, ℕ, zero, suc, ◌+◌, ◌-◌, ◌<◌, ◌≤◌, Bool, true, false, cond, ◌&&◌, ◌||◌, eqb, ltb, leb, List, [], ◌∷◌, ◌++◌, length, get_or, take, drop, Ok, Err, Decides, sym, refl, ap, ◌∙◌, subst, ⊎_elim, arith, length-append}
+use Rattle.std.proofs.Common.{◌≡◌, ℕ, zero, suc, ◌+◌, ◌-◌, ◌<◌, ◌≤◌, Bool, true, false, cond, ◌&&◌, eqb, ltb, leb, List, [], ◌∷◌, ◌++◌, length, get_or, take, Ok, Err, Decides, sym, refl, ap, ◌∙◌, subst, ⊎_elim, arith, length-append}
 use lib.Seq.{take-length, take-append-add}
 use Rattle.std.specs.List.{flat_map, AllByRecursion as All, between}
 use Rattle.std.proofs.lemmas.List.{get_or-append-add, get_or_append_left, flat_map_more, take_more}

@@ -1,10 +1,10 @@
 -- The run of a table's sequences against the relation: bytes that are sequences in a row. Assumes nothing.
 use Rattle.std.proofs.Common.{◌≡◌, ℕ, zero, suc, ◌+◌, ◌-◌, ◌<◌, ◌≤◌, Bool, true, false, cond, ◌&&◌, ltb, leb, List, [], ◌∷◌, ◌++◌, length, get_or, take, drop, sym, refl, ap, ◌∙◌, subst, ⊎_elim, arith, length-append, take-add}
 use Rattle.std.specs.List.{flat_map, AllByRecursion as All, between}
-use Rattle.std.proofs.lemmas.List.{append_assoc, get_or-append-add, get_or_append_left, drop-drop, length-take, length-take-le, length-drop, take-append-drop, get_or-take, get_or-drop}
-use Rattle.std.proofs.lemmas.Bool.{and_parts, lt-ltb, cases_lt}
+use Rattle.std.proofs.lemmas.List.{append_assoc, get_or-append-add, get_or_append_left, drop-drop, length-take, length-take-le, length-drop, take-append-drop}
+use Rattle.std.proofs.lemmas.Bool.{lt-ltb, cases_lt}
 use Rattle.script.specs.Sequences.{Range, Row, holds, stands, sequence, after, run_end, Sequence, Sequences, Stands, Run}
-use Rattle.script.proofs.Runs.{stands_within, sequence_within, after_ge, after_none, run_step, run_stop}
+use Rattle.script.proofs.Runs.{sequence_within, after_ge, after_none, run_step}
 
 -- a table where a row that stands somewhere is the one that is found there, and no row is empty
 pub record Fair (t : List Row) : Type 0 where

@@ -1,5 +1,5 @@
 -- Which bytes are a script, and what each refusal says.
-use Rattle.std.specs.Prelude.{◌≡◌, ℕ, ◌<◌, ◌≤◌, Bool, cond, ◌&&◌, List, [], length, Some, None, Option, ◌==◌, nat_le}
+use Rattle.std.specs.Prelude.{ℕ, ◌<◌, ◌≤◌, Bool, cond, ◌&&◌, List, [], length, Some, None, Option, ◌==◌, nat_le}
 use Rattle.script.specs.declared.refusal.Refusal.{Refusal}
 use Rattle.script.specs.declared.refusal.Refusal.TheVariants.{TooLong, NotUtf8, NoCharacter}
 use Rattle.script.specs.Sequences.{run_end}

@@ -2,7 +2,7 @@
 use Rattle.std.specs.Prelude.{◌≡◌, ℕ, ◌+◌, ◌≤◌, Bool, cond, ◌&&◌, ◌||◌, List, length, take, Ok, Err, Result, ◌==◌, nat_le, nat_lt, slice_index}
 use Rattle.std.specs.List.{between}
 use Rattle.script.specs.declared.refusal.Refusal.{Refusal}
-use Rattle.script.specs.declared.refusal.Refusal.TheVariants.{TooLong, NotUtf8, NoCharacter}
+use Rattle.script.specs.declared.refusal.Refusal.TheVariants.{NoCharacter}
 use Rattle.script.specs.Sequences.{sequence, Sequence}
 use Rattle.script.specs.Utf8Table.{utf8, WellFormed}
 

@@ -10,7 +10,7 @@ use Rattle.raw.specs.declared.kinds.EscapeError.{EscapeError}
 use Rattle.raw.proofs.Characters.{character_keeps}
 use Rattle.tape.specs.declared.mark.Mark.{Mark}
 use Rattle.tape.specs.declared.tape.Tape.{Tape}
-use Rattle.tape.specs.Rules.{token_of, fault_count, has_part, lawful, lawful_from, lawful_count, fits}
+use Rattle.tape.specs.Rules.{token_of, fault_count, has_part, lawful, lawful_from, lawful_count}
 use Rattle.tape.specs.Meaning.{mark_at, token_by, faults_by, token_at, faults_at}
 
 -- a mark that is found at a place keeps the rules there

@@ -1,5 +1,5 @@
 -- The numbers that stand for raw kinds and escape faults.
-use Rattle.std.specs.Prelude.{ℕ, ◌+◌, ◌*◌, Bool, true, false, cond, Some, None, Option}
+use Rattle.std.specs.Prelude.{ℕ, ◌+◌, ◌*◌, Bool, cond, Some, None, Option}
 use Rattle.raw.specs.declared.kinds.DocStyle.{DocStyle}
 use Rattle.raw.specs.declared.kinds.DocStyle.TheVariants.{Outer, Inner}
 use Rattle.raw.specs.declared.kinds.LiteralKind.{LiteralKind}

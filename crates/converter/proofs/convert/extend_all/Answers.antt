@@ -1,4 +1,4 @@
-use Rattle.std.proofs.Common.{◌≡◌, length, sym, ap, ◌∙◌, subst, arith}
+use Rattle.std.proofs.Common.{length, ap, ◌∙◌, arith}
 use Rattle.converter.proofs.Running.{nothing_yet, turn, done}
 use Rattle.converter.proofs.convert.extend_all.Goals as goal
 

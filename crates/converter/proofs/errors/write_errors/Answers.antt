@@ -1,4 +1,4 @@
-use Rattle.std.proofs.Common.{◌≡◌, List, [], map, length, sym, refl, ap, ◌∙◌, ⊎_elim, arith}
+use Rattle.std.proofs.Common.{◌≡◌, [], map, length, sym, ap, ◌∙◌, ⊎_elim, arith}
 use Rattle.converter.specs.Codes.{said}
 use Rattle.converter.specs.Columns.{put}
 use Rattle.converter.specs.Lexing.{lex_error}

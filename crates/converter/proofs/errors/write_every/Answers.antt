@@ -1,4 +1,4 @@
-use Rattle.std.proofs.Common.{◌≡◌, sym, refl, ap, ◌∙◌, arith}
+use Rattle.std.proofs.Common.{◌∙◌, arith}
 use Rattle.converter.proofs.Faults.{asked, within, turn, ended}
 use Rattle.converter.proofs.errors.write_every.Goals as goal
 

@@ -1,4 +1,4 @@
-use Rattle.std.proofs.Common.{◌≡◌, ◌+◌, map, length, sym, refl, ap, ◌∙◌, arith}
+use Rattle.std.proofs.Common.{◌+◌, map, length, sym, ap, ◌∙◌, arith}
 use Rattle.converter.specs.Columns.{put}
 use Rattle.converter.specs.Lexing.{lex_error}
 use Rattle.converter.proofs.Faults.{asked, first_said, none_said}

@@ -1,4 +1,4 @@
-use Rattle.std.proofs.Common.{◌≡◌, map, length, sym, ap, ◌∙◌, subst, arith}
+use Rattle.std.proofs.Common.{map, length, sym, ◌∙◌, subst, arith}
 use Rattle.raw.specs.declared.kinds.RawToken.{RawToken}
 use Rattle.converter.specs.Codes.{said}
 use Rattle.converter.specs.Lexing.{lex_error}

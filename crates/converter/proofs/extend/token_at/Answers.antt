@@ -1,4 +1,4 @@
-use Rattle.std.proofs.Common.{◌≡◌, length, sym, ap, ◌∙◌, subst}
+use Rattle.std.proofs.Common.{length, sym, ap, ◌∙◌, subst}
 use Rattle.raw.specs.declared.kinds.RawToken.{RawToken}
 use Rattle.converter.specs.Cuts.{cut}
 use Rattle.converter.proofs.Cutting.{Stands, cut_stands}

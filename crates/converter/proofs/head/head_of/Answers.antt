@@ -1,4 +1,4 @@
-use Rattle.std.proofs.Common.{◌≡◌, sym, ap, ◌∙◌}
+use Rattle.std.proofs.Common.{ap, ◌∙◌}
 use Rattle.converter.specs.Lexing.{told}
 use Rattle.converter.proofs.Heads.{parts_head, told_head}
 use Rattle.converter.proofs.head.head_of.Goals as goal

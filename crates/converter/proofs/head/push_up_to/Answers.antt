@@ -1,4 +1,4 @@
-use Rattle.std.proofs.Common.{◌≡◌, sym, refl, ap, ◌∙◌, subst}
+use Rattle.std.proofs.Common.{sym, refl, ap, ◌∙◌}
 use Rattle.converter.specs.Columns.{held, progress, up_to}
 use Rattle.converter.specs.Lexing.{add_up_to}
 use Rattle.converter.proofs.Heading.{pushed, pushed_kept}

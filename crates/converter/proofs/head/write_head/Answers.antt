@@ -1,4 +1,4 @@
-use Rattle.std.proofs.Common.{◌≡◌, length, sym, ap, ◌∙◌, subst, arith}
+use Rattle.std.proofs.Common.{ap, ◌∙◌, arith}
 use Rattle.script.proofs.Bounds.{admitted_short}
 use Rattle.converter.specs.Lexing.{head}
 use Rattle.converter.proofs.Heading.{shebang_reached, head_reached, head_held, head_kept}

@@ -1,4 +1,4 @@
-use Rattle.std.proofs.Common.{◌≡◌, ◌-◌, ◌≤◌}
+use Rattle.std.proofs.Common.{◌≡◌, ◌-◌}
 use Rattle.converter.specs.Hints.{stands, any_from}
 use Rattle.converter.proofs.hint.contains.Given as goal
 

@@ -1,4 +1,4 @@
-use Rattle.std.proofs.Common.{◌≡◌, ◌<◌, [], ◌∷◌, ◌++◌, length, sym, ap, ◌∙◌, subst, arith}
+use Rattle.std.proofs.Common.{◌<◌, [], ◌∷◌, ◌++◌, length, ap, ◌∙◌, arith}
 use Rattle.script.proofs.Bounds.{admitted_short}
 use Rattle.converter.specs.Columns.{over}
 use Rattle.converter.specs.Lexing.{Lexed, lexed}

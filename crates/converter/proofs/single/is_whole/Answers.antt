@@ -1,4 +1,4 @@
-use Rattle.std.proofs.Common.{◌≡◌, sym, ap, ◌∙◌, arith}
+use Rattle.std.proofs.Common.{◌∙◌, arith}
 use Rattle.converter.specs.Meaning.{meaning}
 use Rattle.converter.proofs.Singles.{begins_first, whole_by}
 use Rattle.converter.proofs.single.is_whole.Goals as goal

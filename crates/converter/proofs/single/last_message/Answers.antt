@@ -1,4 +1,4 @@
-use Rattle.std.proofs.Common.{◌≡◌, ◌+◌, length, drop, sym, ap, ◌∙◌, arith}
+use Rattle.std.proofs.Common.{◌+◌, length, drop, ap, ◌∙◌, arith}
 use Rattle.script.proofs.Bounds.{admitted_short}
 use Rattle.converter.specs.Codes.{messages}
 use Rattle.converter.specs.Single.{last_from}

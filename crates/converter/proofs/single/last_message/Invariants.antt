@@ -1,4 +1,4 @@
-use Rattle.std.proofs.Common.{◌≡◌, ◌-◌, ◌≤◌, length, drop}
+use Rattle.std.proofs.Common.{◌≡◌, ◌-◌, length, drop}
 use Rattle.converter.specs.Codes.{messages}
 use Rattle.converter.specs.Single.{last_from, last_of}
 use Rattle.converter.proofs.single.last_message.Given as goal

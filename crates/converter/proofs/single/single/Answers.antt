@@ -1,4 +1,4 @@
-use Rattle.std.proofs.Common.{◌≡◌, sym, ap, ◌∙◌}
+use Rattle.std.proofs.Common.{sym, ◌∙◌}
 use Rattle.converter.specs.Meaning.{meaning}
 use Rattle.converter.proofs.Singles.{single_some}
 use Rattle.converter.proofs.single.single.Goals as goal

@@ -1,4 +1,4 @@
-use Rattle.std.proofs.Common.{◌≡◌, ◌-◌, ◌≤◌}
+use Rattle.std.proofs.Common.{◌≡◌, ◌≤◌}
 use Rattle.frontmatter.specs.Searches.{past_last}
 use Rattle.frontmatter.specs.Lines.{at}
 use Rattle.frontmatter.proofs.find.find_back.Given as goal

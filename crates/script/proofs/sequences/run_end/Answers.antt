@@ -1,4 +1,4 @@
-use Rattle.std.proofs.Common.{◌≡◌, ◌+◌, sym, ap, ◌∙◌, arith}
+use Rattle.std.proofs.Common.{◌+◌, sym, ap, ◌∙◌, arith}
 use Rattle.script.specs.Sequences.{run_end}
 use Rattle.script.proofs.Runs.{step_within, run_step, run_stop}
 use Rattle.script.proofs.sequences.run_end.Goals as goal

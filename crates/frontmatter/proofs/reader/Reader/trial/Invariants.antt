@@ -1,4 +1,4 @@
-use Rattle.std.proofs.Common.{◌≡◌, ◌-◌, ◌≤◌, length}
+use Rattle.std.proofs.Common.{◌≡◌, ◌-◌, length}
 use Rattle.frontmatter.specs.Searches.{first}
 use Rattle.frontmatter.specs.Lines.{closes_at}
 use Rattle.frontmatter.proofs.reader.Reader.trial.Given as goal
