@@ -1,7 +1,7 @@
 -- The spans of a right answer lie in order, at boundaries. Assumes nothing.
 use Rattle.std.proofs.Common.{◌≡◌, ℕ, ◌+◌, ◌-◌, ◌<◌, ◌≤◌, true, List, [], ◌∷◌, length, get_or, Some, None, Ok, Err, Option, sym, refl, ap, ◌∙◌, subst, inl, inr, ⊎_elim, arith}
 use Rattle.std.proofs.lemmas.Bool.{cases_lt}
-use Rattle.std.specs.List.{AllByRecursion as All}
+use Rattle.std.specs.List.{AllByRecursion}
 use Rattle.script.specs.Admission.{admits}
 use Rattle.script.proofs.Bounds.{boundary_start, boundary_end, ascii_before, ascii_after}
 use Rattle.frontmatter.specs.declared.parse.Opening.{Opening}
@@ -164,22 +164,22 @@ module _ (s : List ℕ) (a : admits s ≡ true) where
       subst (λ x. Placed s (Ok x)) (sym d.7) (shebang_order o.shebang line.body (o.fence ∷ also o.info (span (o.end + 1) close.start ∷ (close ∷ (span z (length s) ∷ [])))) opens.before (opens.blank.low, fence, info), refl)
 
   fault_placed : (f : Fault) (k : FaultKind) → Reason s f k → Placed s (Err f)
-  fault_placed f TooFewDashes d = subst (λ x. All (Sits s) (shown x)) (sym d.6) (end_sits, (fence_sits d.0 d.1 d.2 d.3, tt))
-  fault_placed f Unclosed d = subst (λ x. All (Sits s) (shown x)) (sym d.8) (end_sits, (fence_sits d.0 d.1 d.2 d.4, tt))
+  fault_placed f TooFewDashes d = subst (λ x. AllByRecursion (Sits s) (shown x)) (sym d.6) (end_sits, (fence_sits d.0 d.1 d.2 d.3, tt))
+  fault_placed f Unclosed d = subst (λ x. AllByRecursion (Sits s) (shown x)) (sym d.8) (end_sits, (fence_sits d.0 d.1 d.2 d.4, tt))
   fault_placed f FewerDashes d =
       let both = begins_bounds d.1 d.2 d.6.begins in
-      subst (λ x. All (Sits s) (shown x)) (sym d.8) ((omega arith, both.0, both.1), (fence_sits d.0.shebang d.3.body d.0.fence d.3.opens, tt))
+      subst (λ x. AllByRecursion (Sits s) (shown x)) (sym d.8) ((omega arith, both.0, both.1), (fence_sits d.0.shebang d.3.body d.0.fence d.3.opens, tt))
   fault_placed f MoreDashes d =
       let closes = close_sits d.0 d.1 d.4 in
-      subst (λ x. All (Sits s) (shown x)) (sym d.7) ((d.5.low, closes.0.2, dash_bounds d.1.end d.2 d.5 closes.0.2), (fence_sits d.0.shebang d.3.body d.0.fence d.3.opens, tt))
+      subst (λ x. AllByRecursion (Sits s) (shown x)) (sym d.7) ((d.5.low, closes.0.2, dash_bounds d.1.end d.2 d.5 closes.0.2), (fence_sits d.0.shebang d.3.body d.0.fence d.3.opens, tt))
   fault_placed f TextAfterClose d =
       let closes = close_sits d.0 d.1 d.3.closing in
       let after = d.3.after in
       let end = text_end_bounds d.1.end (Some d.2) after in
       let bounds = text_bounds d.1.end after.text_end d.2 after.text_is end.1 closes.0.2 end.0 in
-      subst (λ x. All (Sits s) (shown x)) (sym d.4) ((omega (arith, after.text_is.1), bounds.0, bounds.1), (fence_sits d.0.shebang d.3.opening.body d.0.fence d.3.opening.opens, tt))
+      subst (λ x. AllByRecursion (Sits s) (shown x)) (sym d.4) ((omega (arith, after.text_is.1), bounds.0, bounds.1), (fence_sits d.0.shebang d.3.opening.body d.0.fence d.3.opening.opens, tt))
   fault_placed f SecondFence d =
-      subst (λ x. All (Sits s) (shown x)) (sym d.7)
+      subst (λ x. AllByRecursion (Sits s) (shown x)) (sym d.7)
       (second_sits d.0 d.1 d.2 d.3 d.4.closing d.5, (fence_sits d.0.shebang d.4.opening.body d.0.fence d.4.opening.opens, ((close_sits d.0 d.1 d.4.closing).0, tt)))
 
   pub placed : (x : Answer) → Reads s x → Placed s x

@@ -1,6 +1,6 @@
 -- Where the spans of an answer lie: in order, within the script, and at boundaries of its characters.
 use Rattle.std.specs.Prelude.{◌≡◌, ℕ, ◌≤◌, true, List, [], ◌∷◌, length, Some, None, Ok, Err, Option}
-use Rattle.std.specs.List.{AllByRecursion as All}
+use Rattle.std.specs.List.{AllByRecursion}
 use Rattle.script.specs.Places.{boundary}
 use Rattle.frontmatter.specs.declared.source.Span.{Span}
 use Rattle.frontmatter.specs.declared.source.ScriptSource.{ScriptSource}
@@ -32,4 +32,4 @@ shown f = f.primary ∷ (f.«open» ∷ also f.close [])
 
 abbrev pub Placed : List ℕ → Answer → Type 0
 Placed s (Ok r) = InOrder s 0 (parts r) × (r.content.end ≡ length s)
-Placed s (Err f) = All (Sits s) (shown f)
+Placed s (Err f) = AllByRecursion (Sits s) (shown f)

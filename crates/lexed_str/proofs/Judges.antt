@@ -1,10 +1,10 @@
 -- Each answer to an offer says what it should, and no other answer does. Assumes nothing.
 use Rattle.std.proofs.Common.{◌≡◌, ℕ, Bool, true, false, cond, leb, List, [], length, IfNone, Some, None, Option, sym, refl, ap, ◌∙◌, subst, ⊎_elim, arith}
 use Rattle.std.proofs.lemmas.Bool.{cond-true, cond-false, cases_Bool, leb-false, lt-leb}
-use Rattle.script.specs.Admission.{admitted, refusal as scriptRefusal, Judged as ScriptJudged}
+use Rattle.script.specs.Admission.{admitted, refusal as script_refusal, Judged as ScriptJudged}
 use Rattle.script.specs.declared.refusal.Refusal.{Refusal as ScriptRefusal}
 use Rattle.script.specs.declared.refusal.Refusal.TheVariants as script
-use Rattle.script.proofs.Judges.{judged as script-judged, judged_only as script-only, kept}
+use Rattle.script.proofs.Judges.{judged as script_judged, judged_only as script_only, kept}
 use Rattle.lexed_str.specs.declared.error.LexError.{LexError}
 use Rattle.lexed_str.specs.declared.refusal.Refusal.{Refusal}
 use Rattle.lexed_str.specs.declared.refusal.Refusal.TheVariants as why
@@ -56,7 +56,7 @@ judged_accepts bs ks ss es None c = columns_accepted bs ks ss es c
 judged_accepts bs ks ss es (Some why) h = tt
 
 -- the same for bytes
-script_whole : (bs : List ℕ) → scriptRefusal bs ≡ None → admitted bs ≡ bs
+script_whole : (bs : List ℕ) → script_refusal bs ≡ None → admitted bs ≡ bs
 script_whole bs e = kept bs None (sym e)
 
 beside : (bs ks ss : List ℕ) (es : List LexError) (o : Option Refusal) → ScriptJudged bs None → Judged bs ks ss es o → JudgedBytes bs ks ss es o
@@ -67,7 +67,7 @@ beside bs ks ss es (Some why.TooLong) s j = absurd j
 beside bs ks ss es (Some (why.NotUtf8 at)) s j = absurd j
 beside bs ks ss es (Some why.NoToken) s j = absurd j
 
-bytes_by : (bs ks ss : List ℕ) (es : List LexError) (o : Option ScriptRefusal) → scriptRefusal bs ≡ o → ScriptJudged bs o → JudgedBytes bs ks ss es (after o (columns_refusal (admitted bs) ks ss es))
+bytes_by : (bs ks ss : List ℕ) (es : List LexError) (o : Option ScriptRefusal) → script_refusal bs ≡ o → ScriptJudged bs o → JudgedBytes bs ks ss es (after o (columns_refusal (admitted bs) ks ss es))
 bytes_by bs ks ss es None e s =
     beside bs ks ss es (columns_refusal (admitted bs) ks ss es) s
     (subst (λ z. Judged z ks ss es (columns_refusal (admitted bs) ks ss es)) (script_whole bs e) (judged (admitted bs) ks ss es))
@@ -76,12 +76,12 @@ bytes_by bs ks ss es (Some (script.NotUtf8 at)) e s = s
 bytes_by bs ks ss es (Some script.NoCharacter) e s = absurd s
 
 pub bytes_judged : (bs ks ss : List ℕ) (es : List LexError) → JudgedBytes bs ks ss es (bytes_refusal bs ks ss es)
-bytes_judged bs ks ss es = bytes_by bs ks ss es (scriptRefusal bs) refl (script-judged bs)
+bytes_judged bs ks ss es = bytes_by bs ks ss es (script_refusal bs) refl (script_judged bs)
 
 -- where the bytes are a script, the answer is that for its columns
 of_script : (bs ks ss : List ℕ) (es : List LexError) (o : Option Refusal) → ScriptJudged bs None → Judged bs ks ss es o → o ≡ bytes_refusal bs ks ss es
 of_script bs ks ss es o s j =
-    let free : None ≡ scriptRefusal bs = script-only bs None s in
+    let free : None ≡ script_refusal bs = script_only bs None s in
     judged_only bs ks ss es o j
     ∙ ap (λ z. columns_refusal z ks ss es) (sym (script_whole bs (sym free)))
     ∙ ap (λ z. after z (columns_refusal (admitted bs) ks ss es)) free
@@ -90,16 +90,16 @@ pub bytes_only : (bs ks ss : List ℕ) (es : List LexError) (o : Option Refusal)
 bytes_only bs ks ss es None h = of_script bs ks ss es None h.0 h.1
 bytes_only bs ks ss es (Some why.Kind) h = of_script bs ks ss es (Some why.Kind) h.0 h.1
 bytes_only bs ks ss es (Some why.Columns) h = of_script bs ks ss es (Some why.Columns) h.0 h.1
-bytes_only bs ks ss es (Some why.TooLong) h = ap (λ z. after z (columns_refusal (admitted bs) ks ss es)) (script-only bs (Some script.TooLong) h)
-bytes_only bs ks ss es (Some (why.NotUtf8 at)) h = ap (λ z. after z (columns_refusal (admitted bs) ks ss es)) (script-only bs (Some (script.NotUtf8 at)) h)
+bytes_only bs ks ss es (Some why.TooLong) h = ap (λ z. after z (columns_refusal (admitted bs) ks ss es)) (script_only bs (Some script.TooLong) h)
+bytes_only bs ks ss es (Some (why.NotUtf8 at)) h = ap (λ z. after z (columns_refusal (admitted bs) ks ss es)) (script_only bs (Some (script.NotUtf8 at)) h)
 bytes_only bs ks ss es (Some why.NoToken) h = absurd h
 
 -- and what is held is the bytes given, or none of them
 pub bytes_held : (bs ks ss : List ℕ) (es : List LexError) (o : Option Refusal) → JudgedBytes bs ks ss es o → held o (admitted bs) [] ≡ held o bs []
-bytes_held bs ks ss es None h = script_whole bs (sym (script-only bs None h.0))
+bytes_held bs ks ss es None h = script_whole bs (sym (script_only bs None h.0))
 bytes_held bs ks ss es (Some why) h = refl
 
 pub bytes_accepts : (bs ks ss : List ℕ) (es : List LexError) (o : Option Refusal) → JudgedBytes bs ks ss es o → IfNone o (accepts (admitted bs) ks ss es ≡ true)
 bytes_accepts bs ks ss es None h =
-    subst (λ z. accepts z ks ss es ≡ true) (sym (script_whole bs (sym (script-only bs None h.0)))) (columns_accepted bs ks ss es h.1)
+    subst (λ z. accepts z ks ss es ≡ true) (sym (script_whole bs (sym (script_only bs None h.0)))) (columns_accepted bs ks ss es h.1)
 bytes_accepts bs ks ss es (Some why) h = tt

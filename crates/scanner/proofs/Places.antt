@@ -5,7 +5,7 @@ use Rattle.script.specs.Admission.{admits}
 use Rattle.script.specs.Places.{boundary, char_len}
 use Rattle.script.specs.Sequences.{sequence}
 use Rattle.script.specs.Utf8Table.{utf8}
-use Rattle.raw.specs.Answers.{begins as tokenBegins}
+use Rattle.raw.specs.Answers.{begins as token_begins}
 use Rattle.raw.proofs.Characters.{ends_within}
 use Rattle.std.proofs.lemmas.List.{drop-drop, drop_all, length-drop, get_or_past}
 use Rattle.std.proofs.lemmas.Bool.{and_parts, or_from, eqb-true, ltb-true, cases_lt}
@@ -131,7 +131,7 @@ point_within bs q e =
     (cases_lt q (length bs))
 
 -- a token begins before the end
-pub begins_before : (bs : List ℕ) (p : ℕ) → tokenBegins bs p ≡ true → p < length bs
+pub begins_before : (bs : List ℕ) (p : ℕ) → token_begins bs p ≡ true → p < length bs
 begins_before bs p e = ltb-true p (length bs) (and_parts (ltb p (length bs)) (boundary bs p) e).0
 
 -- the character's length, and that it lies within the bytes
@@ -139,7 +139,7 @@ char_is : (bs : List ℕ) (p n : ℕ) (b : Bool) → b ≡ true → Ok n ≡ con
 char_is bs p n true b e = cc
 char_is bs p n false b e = let z : ◌≡◌ {A = ℕ} 0 1 = cc in absurd (omega arith)
 
-pub char_within : (bs : List ℕ) (p n : ℕ) → admits bs ≡ true → tokenBegins bs p ≡ true → Ok n ≡ char_len bs p → p + n ≤ length bs
+pub char_within : (bs : List ℕ) (p n : ℕ) → admits bs ≡ true → token_begins bs p ≡ true → Ok n ≡ char_len bs p → p + n ≤ length bs
 char_within bs p n a e is =
     let both = and_parts (ltb p (length bs)) (boundary bs p) e in
     let len = char_is bs p n (ltb p (length bs) && boundary bs p) e is in

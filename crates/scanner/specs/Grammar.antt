@@ -7,7 +7,7 @@
 -- Two differences from the Reference: a line comment ends before its LF, which is not part of it; and CR may stand in
 -- every comment, while the Reference allows none in doc comments.
 use Rattle.std.specs.Prelude.{◌≡◌, ℕ, Bool, true, false, ◌&&◌, ◌||◌, ◌≢◌, List, [], ◌∷◌, ◌++◌, ◌==◌, slice_index}
-use Rattle.std.specs.List.{AllByRecursion as All}
+use Rattle.std.specs.List.{AllByRecursion}
 
 -- the characters that the grammar names
 abbrev pub slash : ℕ
@@ -33,7 +33,7 @@ pub data Form : Type 0 where
 
 -- ~LF*: no line ends in the text
 abbrev pub InLine : List ℕ → Type 0
-InLine xs = All (λ x. x ≢ lf) xs
+InLine xs = AllByRecursion (λ x. x ≢ lf) xs
 
 -- the text begins with the characters a and b
 abbrev pub begins : ℕ → ℕ → List ℕ → Bool

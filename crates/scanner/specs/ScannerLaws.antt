@@ -1,7 +1,7 @@
 -- A scanner keeps the laws of a source. Assumes nothing.
 use Rattle.std.specs.Prelude.{◌≡◌, ℕ, zero, suc, ◌+◌, ◌<◌, ◌≤◌, Bool, true, false, cond, ◌&&◌, ◌||◌, List, [], ◌∷◌, map, length, drop, Some, None, Option, ◌==◌, nat_le, nat_lt, slice_index, slice_index_or, refl}
 use Rattle.std.proofs.Common.{sym, ap, ◌∙◌, ⊎_elim, arith}
-use Rattle.std.specs.Int.{is_in_range as within}
+use Rattle.std.specs.Int.{is_in_range}
 use Rattle.std.proofs.lemmas.List.{get_or-drop, length-drop, drop-drop, get_or_past}
 use Rattle.std.proofs.lemmas.List.Sums.{prefix_len-drop_yes}
 use Rattle.std.proofs.lemmas.Bool.{and_parts, or_cases, or_left, eqb-true, leb-true, ltb-true, not-false, cond_both, cases_lt}
@@ -11,7 +11,7 @@ use Rattle.script.specs.Sequences.{sequence, run_end}
 use Rattle.script.specs.Utf8Table.{utf8}
 use Rattle.script.specs.WhiteTable.{white}
 use Rattle.script.proofs.Bounds.{ascii_after, boundary_end}
-use Rattle.script.proofs.Joins.{run_le as white-le}
+use Rattle.script.proofs.Joins.{run_le as white_le}
 use Rattle.raw.specs.Forms.{form, ordinary}
 use Rattle.raw.specs.Laws.{Laws, keeps}
 use Rattle.raw.specs.declared.kinds.LiteralKind.TheVariants.{Int, Float}
@@ -29,15 +29,15 @@ use Rattle.scanner.specs.Classes.{letter, digit, passes, run_to, marks, kind_in,
 use Rattle.scanner.specs.Tokens.{span_of, point, number_to, character_at, word_at, or, token_at}
 
 -- the bytes of words and numbers are ASCII
-low_within : (a b x : ℕ) → b < 128 → within a b x ≡ true → x < 128
+low_within : (a b x : ℕ) → b < 128 → is_in_range a b x ≡ true → x < 128
 low_within a b x h e = omega (arith, leb-true x b (and_parts (nat_le a x) (nat_le x b) e).1)
 
 low_letter : (x : ℕ) → letter x ≡ true → x < 128
 low_letter x e =
     ⊎_elim
-    (λ h. ⊎_elim (low_within 97 122 x (omega arith)) (low_within 65 90 x (omega arith)) (or_cases (within 97 122 x) (within 65 90 x) h))
+    (λ h. ⊎_elim (low_within 97 122 x (omega arith)) (low_within 65 90 x (omega arith)) (or_cases (is_in_range 97 122 x) (is_in_range 65 90 x) h))
     (λ h. omega (arith, eqb-true x 95 h))
-    (or_cases (within 97 122 x || within 65 90 x) (x == 95) e)
+    (or_cases (is_in_range 97 122 x || is_in_range 65 90 x) (x == 95) e)
 
 low_digit : (x : ℕ) → digit x ≡ true → x < 128
 low_digit x e = low_within 48 57 x (omega arith) e
@@ -125,7 +125,7 @@ module _ (bs : List ℕ) (p : ℕ) (a : admits bs ≡ true) (l : p < length bs) 
   span_keeps k q o ends = ordinary_keeps bs p q (span_of k p q) o ends (omega (arith, ends.some))
 
   white_keeps : p < run_end white bs p → Keeps (span_of Whitespace p (run_end white bs p))
-  white_keeps some = span_keeps Whitespace (run_end white bs p) refl (record { some = some; within = white-le white bs p (omega arith); at = white_run bs p a b })
+  white_keeps some = span_keeps Whitespace (run_end white bs p) refl (record { some = some; within = white_le white bs p (omega arith); at = white_run bs p a b })
 
   word_keeps : passes Letter (slice_index bs p) ≡ true → Keeps (span_of Ident p (run_to Word bs p))
   word_keeps e =

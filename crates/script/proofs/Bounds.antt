@@ -1,7 +1,7 @@
 -- Boundaries and characters of UTF-8: a place is a boundary exactly where whole characters stand before it. Assumes nothing.
 use Rattle.std.proofs.Common.{◌≡◌, ℕ, zero, suc, ◌+◌, ◌-◌, ◌<◌, ◌≤◌, Bool, true, false, cond, ◌&&◌, eqb, ltb, leb, List, [], ◌∷◌, ◌++◌, length, get_or, take, Ok, Err, Decides, sym, refl, ap, ◌∙◌, subst, ⊎_elim, arith, length-append}
 use lib.Seq.{take-length, take-append-add}
-use Rattle.std.specs.List.{flat_map, AllByRecursion as All, between}
+use Rattle.std.specs.List.{flat_map, AllByRecursion, between}
 use Rattle.std.proofs.lemmas.List.{get_or-append-add, get_or_append_left, flat_map_more, take_more}
 use Rattle.std.proofs.ByRecursion.{All-push}
 use Rattle.std.proofs.lemmas.Bool.{and_parts, and_from, both_ways, eqb-true, le-leb, leb-true, ltb-true, lt-ltb, cases_lt, cases_eq}
@@ -96,7 +96,7 @@ boundary_inside q rest p l h b =
 one_more : (q rest : List ℕ) (m : ℕ) → Sequence utf8 q → WellFormed (take m rest) → WellFormed (take (length q + m) (q ++ rest))
 one_more q rest m s w = (q ∷ w.0, (s, w.1), ap (λ z. q ++ z) w.2 ∙ sym (take-append-add q rest m))
 
-cut : (qs : List (List ℕ)) → All (Sequence utf8) qs → (p : ℕ) → p ≤ length (flat_map (λ q. q) qs) → boundary (flat_map (λ q. q) qs) p ≡ true → WellFormed (take p (flat_map (λ q. q) qs))
+cut : (qs : List (List ℕ)) → AllByRecursion (Sequence utf8) qs → (p : ℕ) → p ≤ length (flat_map (λ q. q) qs) → boundary (flat_map (λ q. q) qs) p ≡ true → WellFormed (take p (flat_map (λ q. q) qs))
 cut [] all p l b = let none : p ≡ 0 = omega arith in subst (λ k. WellFormed (take k [])) (sym none) ([], tt, refl)
 cut (q ∷ qs) all p l b =
     let rest = flat_map (λ (z : List ℕ). z) qs in

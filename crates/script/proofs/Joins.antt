@@ -1,6 +1,6 @@
 -- The run of a table's sequences against the relation: bytes that are sequences in a row. Assumes nothing.
 use Rattle.std.proofs.Common.{◌≡◌, ℕ, zero, suc, ◌+◌, ◌-◌, ◌<◌, ◌≤◌, Bool, true, false, cond, ◌&&◌, ltb, leb, List, [], ◌∷◌, ◌++◌, length, get_or, take, drop, sym, refl, ap, ◌∙◌, subst, ⊎_elim, arith, length-append, take-add}
-use Rattle.std.specs.List.{flat_map, AllByRecursion as All, between}
+use Rattle.std.specs.List.{flat_map, AllByRecursion, between}
 use Rattle.std.proofs.lemmas.List.{append_assoc, get_or-append-add, get_or_append_left, drop-drop, length-take, length-take-le, length-drop, take-append-drop}
 use Rattle.std.proofs.lemmas.Bool.{lt-ltb, cases_lt}
 use Rattle.script.specs.Sequences.{Range, Row, holds, stands, sequence, after, run_end, Sequence, Sequences, Stands, Run}
@@ -38,7 +38,7 @@ sequence_at t fair xs q ys d =
     fair.found d.0 d.1 bs (length xs) (subst (λ n. stands row bs n ≡ true) start here) ∙ sym d.3
 
 -- past whole sequences the run goes on as before
-past : (t : List Row) → Fair t → (qs : List (List ℕ)) → All (Sequence t) qs → (xs ys : List ℕ) → run_end t (xs ++ (flat_map (λ q. q) qs ++ ys)) (length xs) ≡ run_end t (xs ++ (flat_map (λ q. q) qs ++ ys)) (length xs + length (flat_map (λ q. q) qs))
+past : (t : List Row) → Fair t → (qs : List (List ℕ)) → AllByRecursion (Sequence t) qs → (xs ys : List ℕ) → run_end t (xs ++ (flat_map (λ q. q) qs ++ ys)) (length xs) ≡ run_end t (xs ++ (flat_map (λ q. q) qs ++ ys)) (length xs + length (flat_map (λ q. q) qs))
 past t fair [] all xs ys = let same : length xs ≡ length xs + 0 = omega arith in ap (run_end t (xs ++ ys)) same
 past t fair (q ∷ qs) all xs ys =
     let rest = flat_map (λ (z : List ℕ). z) qs in

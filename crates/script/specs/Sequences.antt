@@ -1,6 +1,6 @@
 -- Byte sequences that a table describes: each row of the table has a range for each byte of its sequences.
 use Rattle.std.specs.Prelude.{◌≡◌, ℕ, zero, suc, ◌+◌, ◌<◌, ◌≤◌, Bool, true, cond, ◌&&◌, List, [], ◌∷◌, length, ◌≢◌, nat_le, nat_lt, slice_index, slice_index_or}
-use Rattle.std.specs.List.{between, flat_map, AllByRecursion as All}
+use Rattle.std.specs.List.{between, flat_map, AllByRecursion}
 
 -- the bytes from `least` to `most`, both included
 pub record Range : Type 0 where
@@ -46,7 +46,7 @@ Sequence t q = (k : ℕ) × (k < length t) × (stands (slice_index_or t k []) q 
 
 -- the bytes are sequences in a row
 abbrev pub Sequences : List Row → List ℕ → Type 0
-Sequences t bs = (qs : List (List ℕ)) × All (Sequence t) qs × (flat_map (λ q. q) qs ≡ bs)
+Sequences t bs = (qs : List (List ℕ)) × AllByRecursion (Sequence t) qs × (flat_map (λ q. q) qs ≡ bs)
 
 -- the n bytes at p are one sequence of the table; n is 0 exactly where no sequence of it stands there
 pub record Stands (t : List Row) (bs : List ℕ) (p n : ℕ) : Type 0 where
