@@ -60,12 +60,12 @@ module _ (m : Meaning) (edition : ℕ) (w : Lawful m) where
   all_done (suc k) l r f few = mutual_step k l (ltb l.place (length m.script)) refl r f few (all_done k)
 
   head_fit_by : (h : Head) → HeadFits m.script h → Fit m (head h)
-  head_fit_by h f = head-fit h.shebang h.frontmatter f.shebang f.frontmatter where
-    head-fit : (a b : Option ℕ) → EndsPast m.script 0 a → EndsPast m.script (end_or 0 a) b → Fit m (head (record { shebang = a; frontmatter = b }))
-    head-fit None None x y = record { on = boundary_start m.script w.admitted; within = omega arith; few = omega arith }
-    head-fit None (Some e) x y = record { on = y.2; within = y.1; few = omega (arith, y.0) }
-    head-fit (Some e) None x y = record { on = x.2; within = x.1; few = omega (arith, x.0) }
-    head-fit (Some e) (Some e') x y = record { on = y.2; within = y.1; few = omega (arith, x.0, y.0) }
+  head_fit_by h f = head_fit h.shebang h.frontmatter f.shebang f.frontmatter where
+    head_fit : (a b : Option ℕ) → EndsPast m.script 0 a → EndsPast m.script (end_or 0 a) b → Fit m (head (record { shebang = a; frontmatter = b }))
+    head_fit None None x y = record { on = boundary_start m.script w.admitted; within = omega arith; few = omega arith }
+    head_fit None (Some e) x y = record { on = y.2; within = y.1; few = omega (arith, y.0) }
+    head_fit (Some e) None x y = record { on = x.2; within = x.1; few = omega (arith, x.0) }
+    head_fit (Some e) (Some e') x y = record { on = y.2; within = y.1; few = omega (arith, x.0, y.0) }
 
   pub the_head : HeadFits m.script (head_ends (parsed m.script) m.shebang)
   the_head = heads m.script w.admitted (parsed m.script) m.shebang (sound m.script) w.shebangs

@@ -52,7 +52,7 @@ pub extended : (bs ks ss : List ℕ) (es es' : List LexError) (faults : List Esc
     ≡ add (kind_of edition (between p (p + t.len) bs) t.kind) (p + t.len)
     (codes_of (hint bs (take n ks) (take n ss) 5 (length (take n ks)) p) (between p (p + t.len) bs) t.kind faults)
     (held ks ss es (record { tokens = n; errors = e; place = p }))
-extended bs ks ss es es' faults edition n e p kind written t lk ls le is to put-there =
+extended bs ks ss es es' faults edition n e p kind written t lk ls le is to put_there =
     let text = between p (p + t.len) bs in
     let codes = codes_of (hint bs ks ss 5 n p) text t.kind faults in
     let long : length (take n ks) ≡ n = length-take-le n ks (omega arith) in
@@ -60,7 +60,7 @@ extended bs ks ss es es' faults edition n e p kind written t lk ls le is to put-
     ap (λ m. hint bs (take n ks) (take n ss) 5 m p) long ∙ hint_take bs ks ss n 5 n p (omega arith) in
     let mapped : written ≡ e + length (map (lex_error n) codes) = omega (arith, length-map codes (lex_error n)) in
     let errors : take written es' ≡ take e es ++ map (lex_error n) codes =
-    ap (λ k. take k es') mapped ∙ ap (take (e + length (map (lex_error n) codes))) put-there ∙ take_put e (map (lex_error n) codes) es le in
+    ap (λ k. take k es') mapped ∙ ap (take (e + length (map (lex_error n) codes))) put_there ∙ take_put e (map (lex_error n) codes) es le in
     same_lexed _ _ _ _ _ _ _ _
     (take_more_set ks n kind lk ∙ ap (λ k. take n ks ++ k ∷ []) is)
     (take_more_set ss n p ls)
@@ -85,7 +85,7 @@ pub written_out : (bs xs ks ss : List ℕ) (es es' : List LexError) (tokens : �
     → es' ≡ put sf.errors (map (lex_error sf.tokens) (said (faults sf.place) last)) es
     → held (set ks sf.tokens kind) (set ss sf.tokens sf.place) es' (record { tokens = sf.tokens + 1; errors = written; place = sf.place + t.len })
     ≡ extend (meaning bs tokens faults shebang) edition (held ks ss es sf)
-written_out bs xs ks ss es es' tokens faults shebang edition sf kind written t first last lk ls le same is of c₁ c₂ to put-there =
+written_out bs xs ks ss es es' tokens faults shebang edition sf kind written t first last lk ls le same is of c₁ c₂ to put_there =
     let n = sf.tokens in
     let p = sf.place in
     let e = sf.errors in
@@ -94,7 +94,7 @@ written_out bs xs ks ss es es' tokens faults shebang edition sf kind written t f
     extended bs ks ss es es' (faults p) edition n e p kind written t lk ls le
     (of ∙ ap (λ b. kind_of edition (between p (p + t.len) b) t.kind) same)
     (to ∙ ap (λ x. e + length (said (faults p) x)) codes)
-    (put-there ∙ ap (λ x. put e (map (lex_error n) (said (faults p) x)) es) codes)
+    (put_there ∙ ap (λ x. put e (map (lex_error n) (said (faults p) x)) es) codes)
     ∙ ap (λ (y : RawToken). add (kind_of edition (between p (p + y.len) bs) y.kind) (p + y.len) (codes_of (hint bs (take n ks) (take n ss) 5 (length (take n ks)) p) (between p (p + y.len) bs) y.kind (faults p)) (held ks ss es sf)) is
 
 -- how far the columns have come then

@@ -46,9 +46,9 @@ module _ (bs : List ℕ) (a : admits bs ≡ true) where
       let opening = closed.opening in
       let sb = shebang_fits o.shebang opening.body opening.opens.before in
       let next = next_line close.end z content.next in
-      let close-end : close.end ≡ closed.closing.place + 1 + size o.fence = ap (λ (x : Span). x.end) closed.closing.is in
+      let close_end : close.end ≡ closed.closing.place + 1 + size o.fence = ap (λ (x : Span). x.end) closed.closing.is in
       let past : end_or 0 (line_end o.shebang) < z =
-      omega (arith, sb.1, opening.opens.blank.low, opening.three, opening.line.low, closed.closing.first.low, close-end, next.0) in
+      omega (arith, sb.1, opening.opens.blank.low, opening.three, opening.line.low, closed.closing.first.low, close_end, next.0) in
       subst (λ (x : ScriptSource). HeadFits bs (head_ends (Ok x) n)) (sym is) (record { shebang = sb.0; frontmatter = (past, next.1, next.2) })
 
   pub head_fits : (r : ScriptSource) (n : ℕ) → Reads bs (Ok r) → HeadFits bs (head_ends (Ok r) n)

@@ -84,11 +84,11 @@ module _ (m : Meaning) (edition : ℕ) where
       let long : length (ks ++ k ∷ []) ≡ n + 1 = length-append ks (k ∷ []) in
       let slong : length ss ≡ n + 1 = omega (arith, length-append l.starts (p ∷ []), r.same) in
       let s : get_or (ss ++ e ∷ []) n 0 ≡ p = get_or_append_left ss (e ∷ []) 0 n (omega arith) ∙ last_of l.starts p 0 n r.same in
-      let no-head : ltb n h ≡ false = le-ltb n h r.head_within in
+      let no_head : ltb n h ≡ false = le-ltb n h r.head_within in
       let codes : codes_at m edition (ks ++ k ∷ []) (ss ++ e ∷ []) n p ≡ codes_at m edition ks l.starts n p =
       codes_more ks ss (k ∷ []) (e ∷ []) n p (omega arith) (omega arith) ∙ (let z = codes_more ks l.starts [] (p ∷ []) n p (omega arith) (omega (arith, r.same)) in ap (λ x. codes_at m edition x ss n p) (sym (append-nil ks)) ∙ z) in
       let at : errors_at m edition h (ks ++ k ∷ []) (ss ++ e ∷ []) n ≡ map (lex_error n) (codes_at m edition ks l.starts n p) =
-      ap (λ b. cond b [] (map (lex_error n) (codes_at m edition (ks ++ k ∷ []) (ss ++ e ∷ []) n (get_or (ss ++ e ∷ []) n 0)))) no-head
+      ap (λ b. cond b [] (map (lex_error n) (codes_at m edition (ks ++ k ∷ []) (ss ++ e ∷ []) n (get_or (ss ++ e ∷ []) n 0)))) no_head
       ∙ ap (λ q. map (lex_error n) (codes_at m edition (ks ++ k ∷ []) (ss ++ e ∷ []) n q)) s
       ∙ ap (map (lex_error n)) codes in
       let up : errors_up_to m edition h (ks ++ k ∷ []) (ss ++ e ∷ []) (suc n) ≡ l.errors ++ map (lex_error n) (codes_at m edition ks l.starts n p) =

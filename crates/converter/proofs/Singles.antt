@@ -84,9 +84,9 @@ pub single_some : (m : Meaning) (edition : ℕ) (xs : List ℕ) (t : RawToken) (
     → Some (kind, code) ≡ single m edition
 single_some m edition xs t kind code first last w same is of c₁ c₂ c₃ =
     let bs = m.script in
-    let zero-first : t.len ≡ 0 + t.len = omega arith in
-    let text : between 0 t.len xs ≡ between 0 (0 + t.len) bs = ap (λ b. between 0 t.len b) same ∙ ap (λ k. between 0 k bs) zero-first in
+    let zero_first : t.len ≡ 0 + t.len = omega arith in
+    let text : between 0 t.len xs ≡ between 0 (0 + t.len) bs = ap (λ b. between 0 t.len b) same ∙ ap (λ k. between 0 k bs) zero_first in
     let k : kind ≡ kind_at m edition 0 = of ∙ ap (λ x. kind_of edition x t.kind) text ∙ ap (λ (y : RawToken). kind_of edition (between 0 (0 + y.len) bs) y.kind) is in
-    let said-last : last ≡ settled false (between 0 (0 + t.len) bs) (complaint_of t.kind) = c₂ ∙ ap (settled false (between 0 t.len xs)) c₁ ∙ ap (λ x. settled false x (complaint_of t.kind)) text in
-    let c : code ≡ last_of (codes_at m edition [] [] 0 0) = c₃ ∙ ap (λ x. last_of (said (m.faults 0) x)) said-last ∙ ap (λ (y : RawToken). last_of (said (m.faults 0) (settled false (between 0 (0 + y.len) bs) (complaint_of y.kind)))) is in
+    let said_last : last ≡ settled false (between 0 (0 + t.len) bs) (complaint_of t.kind) = c₂ ∙ ap (settled false (between 0 t.len xs)) c₁ ∙ ap (λ x. settled false x (complaint_of t.kind)) text in
+    let c : code ≡ last_of (codes_at m edition [] [] 0 0) = c₃ ∙ ap (λ x. last_of (said (m.faults 0) x)) said_last ∙ ap (λ (y : RawToken). last_of (said (m.faults 0) (settled false (between 0 (0 + y.len) bs) (complaint_of y.kind)))) is in
     ap (λ x. Some (x, code)) k ∙ ap (λ x. Some (kind_at m edition 0, x)) c ∙ sym (ap (λ b. cond b (Some (kind_at m edition 0, last_of (codes_at m edition [] [] 0 0))) None) w)

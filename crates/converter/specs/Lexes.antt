@@ -1,7 +1,7 @@
 -- The law of lexing, by positions: the head's tokens come first; each later token is what the source gives at its start under
 -- the edition's cut, and ends where the next one starts; the last ends with the script, where the end's entry stands; and
 -- the errors are, token by token, what is said of each.
-use Rattle.std.specs.Prelude.{◌≡◌, ℕ, zero, suc, ◌+◌, ◌<◌, ◌≤◌, true, cond, List, [], ◌∷◌, ◌++◌, map, length, take, Ok, Err, Result, nat_lt, slice_index, slice_index_or}
+use Rattle.std.specs.Prelude.{◌≡◌, ℕ, zero, suc, ◌+◌, ◌<◌, ◌≤◌, true, cond, List, [], ◌∷◌, ◌++◌, map, length, take, Ok, Err, Result, nat_lt, slice_index}
 use Rattle.raw.specs.Answers.{begins}
 use Rattle.lexed_str.specs.declared.error.LexError.{LexError}
 use Rattle.lexed_str.specs.Columns.{Columns}
@@ -14,8 +14,8 @@ use Rattle.converter.specs.Names.{EOF}
 -- token i is what the source gives at its start, and the next one starts at its end
 pub record Given (m : Meaning) (edition : ℕ) (ks ss : List ℕ) (i : ℕ) : Type 0 where
   pub there : begins m.script (slice_index ss i) ≡ true
-  pub kind : slice_index_or ks i 0 ≡ kind_at m edition (slice_index ss i)
-  pub next : slice_index_or ss (i + 1) 0 ≡ end_at m edition (slice_index ss i)
+  pub kind : slice_index ks i ≡ kind_at m edition (slice_index ss i)
+  pub next : slice_index ss (i + 1) ≡ end_at m edition (slice_index ss i)
 
 -- what is said of token i; nothing of the h tokens of the head
 abbrev pub errors_at : Meaning → ℕ → ℕ → List ℕ → List ℕ → ℕ → List LexError
@@ -34,8 +34,8 @@ pub record Lexes (m : Meaning) (edition n : ℕ) (ks ss : List ℕ) (es : List L
   pub head_starts : take (length (head_of m).kinds + 1) ss ≡ (head_of m).starts ++ (head_of m).place ∷ []
   pub head_within : length (head_of m).kinds ≤ n
   pub each : (i : ℕ) → length (head_of m).kinds ≤ i → i < n → Given m edition ks ss i
-  pub end_kind : slice_index_or ks n 0 ≡ EOF
-  pub end_start : slice_index_or ss n 0 ≡ length m.script
+  pub end_kind : slice_index ks n ≡ EOF
+  pub end_start : slice_index ss n ≡ length m.script
   pub errors : es ≡ errors_up_to m edition (length (head_of m).kinds) ks ss n
 
 -- what an answer and the columns say: the fronts of the columns keep the law

@@ -55,8 +55,8 @@ closes_within s n p l h =
 
 within_by : (s : List ℕ) (p n : ℕ) (c : Close) (b : Bool) → ltb (close_from s n p) (length s) ≡ b → p ≤ length s → (Some c ≡ close_of s p (n - 1) → c.at + 1 + c.dashes ≤ length s) → Some c ≡ cond b (Some (record { at = close_from s n p; dashes = n })) (close_of s p (n - 1)) → c.at + 1 + c.dashes ≤ length s
 within_by s p n c true t l ih e =
-    let at-is : c.at ≡ close_from s n p = cc in
-    let dashes-is : c.dashes ≡ n = cc in
+    let at_is : c.at ≡ close_from s n p = cc in
+    let dashes_is : c.dashes ≡ n = cc in
     omega (arith, closes_within s n p l (ltb-true (close_from s n p) (length s) t))
 within_by s p n c false t l ih e = ih e
 

@@ -155,11 +155,11 @@ module _ (s : List ℕ) (a : admits s ≡ true) where
       let next = next_bounds close.end z d.5.next in
       let end = line_bounds o.fence.end o.end line.line in
       let feed = line.feed in
-      let after-feed = ascii_after s o.end a feed (omega (arith, line.line.ends feed)) in
+      let after_feed = ascii_after s o.end a feed (omega (arith, line.line.ends feed)) in
       let cr = cr_within s o.fence.end o.end line.info_end line.line.low line.less_cr in
       let content : InOrder s close.end (span z (length s) ∷ []) = (next.0, (next.1, next.2, boundary_end s (length s) refl), tt) in
       let closing : InOrder s (o.end + 1) (span (o.end + 1) close.start ∷ (close ∷ (span z (length s) ∷ []))) =
-      (omega arith, (closes.1, after-feed, closes.0.1), (omega arith, closes.0, content)) in
+      (omega arith, (closes.1, after_feed, closes.0.1), (omega arith, closes.0, content)) in
       let info = info_order o.fence.end line.info_end (o.end + 1) o.info (span (o.end + 1) close.start ∷ (close ∷ (span z (length s) ∷ []))) line.info (omega (arith, cr.1)) fence.2 (cr_bounds o.fence.end o.end line.info_end line.line.high line.less_cr end) cr.0 (omega (arith, cr.1)) closing in
       subst (λ x. Placed s (Ok x)) (sym d.7) (shebang_order o.shebang line.body (o.fence ∷ also o.info (span (o.end + 1) close.start ∷ (close ∷ (span z (length s) ∷ [])))) opens.before (opens.blank.low, fence, info), refl)
 

@@ -227,9 +227,9 @@ most_found s p n m k (Some c) t some most l first no_more =
 unclosed_by : (s : List ℕ) (sh : Option Span) (f : Span) (l : ℕ) → l ≡ line_end s f.end → ((k : ℕ) → l ≤ k → Begins s 1 k → ⊥) → opened s sh f ≡ unclosed s f
 unclosed_by s sh f l e none =
     let m = line_end s f.end in
-    let no-close = none_found s m (size f) (close_of s m (size f)) (tried s m (size f)) (no_line_only s 1 m (λ k a b. none k (omega (arith, e, a)) b)) in
+    let no_close = none_found s m (size f) (close_of s m (size f)) (tried s m (size f)) (no_line_only s 1 m (λ k a b. none k (omega (arith, e, a)) b)) in
     cond_both (ltb m (length s)) (closing s (opening_line s sh f m) (close_of s m (size f))) (unclosed s f) (λ x. x ≡ unclosed s f)
-    (λ _. ap (closing s (opening_line s sh f m)) no-close)
+    (λ _. ap (closing s (opening_line s sh f m)) no_close)
     (λ _. refl)
 
 unclosed_only : (s : List ℕ) (f : Fault) → Reason s f Unclosed → Err f ≡ parsed s

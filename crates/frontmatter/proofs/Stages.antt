@@ -15,7 +15,7 @@ reads_on s sh body f l =
 pub whole : (s s' : List ℕ) (sh : Option Span) (body : ℕ) (f : Span) (r : Answer) → s' ≡ s → sh ≡ shebang s → body ≡ body_start s → f.start ≡ blank_end s body → f.end ≡ dash_end s f.start → r ≡ opening s' sh body f → r ≡ parsed s
 whole s s' sh body f r bytes she begins start end e =
     let o = blank_end s (body_start s) in
-    let at-start : f.start ≡ o = start ∙ ap (blank_end s) begins in
-    let at-end : f.end ≡ dash_end s o = end ∙ ap (dash_end s) at-start in
-    let is : f ≡ span o (dash_end s o) = ap (λ a. span a f.end) at-start ∙ ap (span o) at-end in
+    let at_start : f.start ≡ o = start ∙ ap (blank_end s) begins in
+    let at_end : f.end ≡ dash_end s o = end ∙ ap (dash_end s) at_start in
+    let is : f ≡ span o (dash_end s o) = ap (λ a. span a f.end) at_start ∙ ap (span o) at_end in
     e ∙ (ap (λ z. opening z sh body f) bytes ∙ (ap (λ z. opening s z body f) she ∙ (ap (λ z. opening s (shebang s) z f) begins ∙ ap (opening s (shebang s) (body_start s)) is)))

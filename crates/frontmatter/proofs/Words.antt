@@ -168,11 +168,11 @@ text_by s p e true l t =
     let a = first (at NotBlank s) p e in
     let z = past_last (at NotBlank s) p e in
     let some = ltb-true a z t in
-    let a-low = first_low (at NotBlank s) p e in
-    let z-high = last_high (at NotBlank s) p e l in (
-      a-low,
+    let a_low = first_low (at NotBlank s) p e in
+    let z_high = last_high (at NotBlank s) p e l in (
+      a_low,
       some,
-      z-high,
+      z_high,
       (λ k x y. is_blank (get_or s k 0) (first_before (at NotBlank s) p e k x y)),
       (λ k x y. is_blank (get_or s k 0) (last_after (at NotBlank s) p e k l x y)),
       no_blank (get_or s a 0) (first_hit (at NotBlank s) p e l (omega arith)),

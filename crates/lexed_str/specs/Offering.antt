@@ -1,5 +1,5 @@
 -- The test of columns that are offered, what it refuses, and what is held afterwards.
-use Rattle.std.specs.Prelude.{ℕ, zero, suc, ◌+◌, ◌-◌, Bool, true, cond, not, ◌&&◌, leb, List, length, Some, None, Option, ◌==◌, nat_le, nat_lt}
+use Rattle.std.specs.Prelude.{ℕ, zero, suc, ◌+◌, ◌-◌, Bool, true, cond, not, ◌&&◌, List, length, Some, None, Option, ◌==◌, nat_le, nat_lt}
 use Rattle.script.specs.Admission.{admitted, refusal as script_refusal}
 use Rattle.script.specs.declared.refusal.Refusal.{Refusal as ScriptRefusal}
 use Rattle.script.specs.Places.{boundary}
@@ -16,7 +16,7 @@ all_below (suc n) test = test n && all_below n test
 
 -- no kind is past the last one
 abbrev pub kinds_known : List ℕ → Bool
-kinds_known ks = all_below (length ks) (λ i. leb (kind_at ks i) last_kind)
+kinds_known ks = all_below (length ks) (λ i. nat_le (kind_at ks i) last_kind)
 
 -- the columns have one length, and run from 0 to the script's length, where the end's entry stands
 abbrev pub ends_fit : List ℕ → List ℕ → List ℕ → Bool

@@ -11,15 +11,15 @@ use Rattle.records.proofs.Halves.{cuts}
 none_here : (n : ℕ) (keys : List ℕ) → ((i : ℕ) → i < length keys → get_or keys i 0 ≡ n → ⊥) → first n keys ≡ None
 none_here n [] h = refl
 none_here n (k ∷ keys) h =
-    let no-head : eqb k n ≡ false = ne_eqb k n (h 0 (omega arith)) in
-    rw (no-head, none_here n keys (λ i l. h (suc i) (omega arith)))
+    let no_head : eqb k n ≡ false = ne_eqb k n (h 0 (omega arith)) in
+    rw (no_head, none_here n keys (λ i l. h (suc i) (omega arith)))
 
 some_here : (n : ℕ) (keys : List ℕ) (i : ℕ) → i < length keys → get_or keys i 0 ≡ n → ((j : ℕ) → j < i → get_or keys j 0 ≡ n → ⊥) → first n keys ≡ Some i
 some_here n [] i l e h = absurd (omega arith)
 some_here n (k ∷ keys) zero l e h = rw (eq-eqb k n e)
 some_here n (k ∷ keys) (suc i) l e h =
-    let no-head : eqb k n ≡ false = ne_eqb k n (h 0 (omega arith)) in
-    rw (no-head, some_here n keys i (omega arith) e (λ j m. h (suc j) (omega arith)))
+    let no_head : eqb k n ≡ false = ne_eqb k n (h 0 (omega arith)) in
+    rw (no_head, some_here n keys i (omega arith) e (λ j m. h (suc j) (omega arith)))
 
 -- the number of a record, and what it says of its place
 below_at : {R : Type 0} (key : R → ℕ) (n : ℕ) (rs : List R) (i : ℕ) → i < length rs → get_or (map (λ r. ltb (key r) n) rs) i false ≡ ltb (get_or (map key rs) i 0) n

@@ -67,8 +67,8 @@ module _ (answers : List Bool) where
 
   -- the search between places with true before and false after ends at the cut
   module _ (parted : Partitioned answers) where
-    front-more : (i m : ℕ) → m < length answers → get_or answers m false ≡ true → i < m + 1 → get_or answers i false ≡ true
-    front-more i m l e h =
+    front_more : (i m : ℕ) → m < length answers → get_or answers m false ≡ true → i < m + 1 → get_or answers i false ≡ true
+    front_more i m l e h =
         ⊎_elim
         (λ (before : i < m). parted i m before l e)
         (λ (here : m ≤ i). let same : m ≡ i = omega arith in subst (λ k. get_or answers k false ≡ true) same e)
@@ -85,9 +85,9 @@ module _ (answers : List Bool) where
         (λ (no : get_or answers i false ≡ false). no)
         (cases_Bool (get_or answers i false))
 
-    cuts-by : (n low high : ℕ) → low ≤ high → high ≤ length answers → high ≤ low + n → ((i : ℕ) → i < low → get_or answers i false ≡ true) → ((i : ℕ) → high ≤ i → i < length answers → get_or answers i false ≡ false) → Cuts answers (halves n answers low high)
-    cuts-by zero low high a b k front rest = record { within = omega arith; front = front; rest = λ i l. rest i (omega arith) }
-    cuts-by (suc n) low high a b k front rest =
+    cuts_by : (n low high : ℕ) → low ≤ high → high ≤ length answers → high ≤ low + n → ((i : ℕ) → i < low → get_or answers i false ≡ true) → ((i : ℕ) → high ≤ i → i < length answers → get_or answers i false ≡ false) → Cuts answers (halves n answers low high)
+    cuts_by zero low high a b k front rest = record { within = omega arith; front = front; rest = λ i l. rest i (omega arith) }
+    cuts_by (suc n) low high a b k front rest =
         let mid = middle low high in
         cond_both (ltb low high)
         (cond (get_or answers mid false) (halves n answers (mid + 1) high) (halves n answers low mid))
@@ -98,14 +98,14 @@ module _ (answers : List Bool) where
         let above = middle_low low high inside in
         let below = middle_high low high inside in
         cond_both (get_or answers mid false) (halves n answers (mid + 1) high) (halves n answers low mid) (Cuts answers)
-        (λ e. cuts-by n (mid + 1) high (omega arith) b (omega arith) (λ i l. front-more i mid (omega arith) e l) rest)
-        (λ e. cuts-by n low mid above (omega arith) (omega arith) front (λ i h l. rest_more i mid l e h)))
+        (λ e. cuts_by n (mid + 1) high (omega arith) b (omega arith) (λ i l. front_more i mid (omega arith) e l) rest)
+        (λ e. cuts_by n low mid above (omega arith) (omega arith) front (λ i h l. rest_more i mid l e h)))
         (λ none. let over = ltb-false low high none in record { within = omega arith; front = front; rest = λ i l. rest i (omega arith) })
 
 pub cuts : {R : Type 0} (before : R → Bool) (rs : List R) → Partitioned (map before rs) → Cuts (map before rs) (bisect before rs)
 cuts before rs parted =
     let long = length-map rs before in
-    cuts-by (map before rs) parted (length rs) 0 (length rs) (omega arith) (omega arith) (omega arith) (λ i l. absurd (omega arith)) (λ i h l. absurd (omega arith))
+    cuts_by (map before rs) parted (length rs) 0 (length rs) (omega arith) (omega arith) (omega arith) (λ i l. absurd (omega arith)) (λ i h l. absurd (omega arith))
 
 -- what the probe says of a record, as the answer at its place
 pub answer_at : {R : Type 0} (before : R → Bool) (rs : List R) (i : ℕ) (x : R) (b : Bool) → i < length rs → x ≡ get_or rs i x → b ≡ before x → get_or (map before rs) i false ≡ b

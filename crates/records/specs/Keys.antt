@@ -1,5 +1,5 @@
 -- Records in the order of their numbers, and the first with a number.
-use Rattle.std.specs.Prelude.{ℕ, suc, ◌<◌, ◌≤◌, cond, ◌&&◌, ltb, List, [], ◌∷◌, map, length, Some, None, Option, ◌==◌, nat_lt, slice_index}
+use Rattle.std.specs.Prelude.{ℕ, suc, ◌<◌, ◌≤◌, cond, ◌&&◌, List, [], ◌∷◌, map, length, Some, None, Option, ◌==◌, nat_lt, slice_index}
 use Rattle.records.specs.Cuts.{bisect}
 
 -- no number is above a later one
@@ -21,4 +21,4 @@ standing n keys i = cond (nat_lt i (length keys) && slice_index keys i == n) (So
 
 -- what the search finds, whatever the order: the place where it ends, if n stands there
 abbrev pub searched : {R : Type 0} → (R → ℕ) → ℕ → List R → Option ℕ
-searched key n rs = standing n (map key rs) (bisect (λ r. ltb (key r) n) rs)
+searched key n rs = standing n (map key rs) (bisect (λ r. nat_lt (key r) n) rs)

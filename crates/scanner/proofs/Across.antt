@@ -2,7 +2,7 @@
 use Rattle.std.proofs.Common.{◌≡◌, ℕ, zero, suc, true, false, ◌&&◌, ◌||◌, eqb, ◌≢◌, List, [], ◌∷◌, ◌++◌, length, get_or, Some, sym, refl, ap, ◌∙◌, subst, ap₂, length-append}
 use Rattle.std.proofs.lemmas.List.{append_assoc}
 use Rattle.std.proofs.lemmas.Bool.{false≢true, ne_eqb}
-use Rattle.scanner.specs.Grammar.{slash, star, bang, Form, is_block, Single, Comment, Rest, bare, line, slashes, innerLine, outerLine, empty, emptyStar, block, stars, around, innerBlock, outerBlock, close, single, nested}
+use Rattle.scanner.specs.Grammar.{slash, star, bang, Form, is_block, Single, Comment, Rest, bare, line, slashes, inner_line, outer_line, empty, empty_star, block, stars, around, inner_block, outer_block, close, single, nested}
 use Rattle.scanner.specs.Comments.{further, closing}
 use Rattle.scanner.proofs.Steps.{plus, plus_some, plus_plus, single_step}
 
@@ -79,15 +79,15 @@ mutual
   across bare e = absurd (false≢true e)
   across (line x xs a b i) e = absurd (false≢true e)
   across (slashes xs i) e = absurd (false≢true e)
-  across (innerLine xs i) e = absurd (false≢true e)
-  across (outerLine xs a i) e = absurd (false≢true e)
+  across (inner_line xs i) e = absurd (false≢true e)
+  across (outer_line xs a i) e = absurd (false≢true e)
   across empty e = opened (star ∷ slash ∷ []) close_read
-  across emptyStar e = opened (star ∷ star ∷ slash ∷ []) (single_read star (star ∷ slash ∷ []) refl close_read)
+  across empty_star e = opened (star ∷ star ∷ slash ∷ []) (single_read star (star ∷ slash ∷ []) refl close_read)
   across (block x xs a b s r) e = opened (x ∷ xs) (single_read x xs s (across_rest r))
   across (stars xs s r) e = opened (star ∷ star ∷ xs) (single_read star (star ∷ xs) refl (single_read star xs s (across_rest r)))
   across (around f c xs b k r) e = opened (c ++ xs) (nested_read c xs (across k b) (across_rest r))
-  across (innerBlock xs r) e = opened (bang ∷ xs) (single_read bang xs refl (across_rest r))
-  across (outerBlock x xs a b r) e = opened (star ∷ x ∷ xs) (single_read star (x ∷ xs) (star_single x xs b) (single_read x xs (other_single x xs a b) (across_rest r)))
+  across (inner_block xs r) e = opened (bang ∷ xs) (single_read bang xs refl (across_rest r))
+  across (outer_block x xs a b r) e = opened (star ∷ x ∷ xs) (single_read star (x ∷ xs) (star_single x xs b) (single_read x xs (other_single x xs a b) (across_rest r)))
 
   pub across_rest : {t : List ℕ} → Rest t → Read t
   across_rest close = close_read

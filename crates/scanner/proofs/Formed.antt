@@ -3,7 +3,7 @@ use Rattle.std.proofs.Common.{◌≡◌, ℕ, true, false, cond, not, ◌&&◌, 
 use Rattle.raw.specs.declared.kinds.DocStyle.TheVariants.{Inner, Outer}
 use Rattle.raw.specs.declared.kinds.RawKind.TheVariants.{BlockComment}
 use Rattle.std.proofs.lemmas.Bool.{false≢true, true≢false, eq-eqb, ne_eqb, cases_eq}
-use Rattle.scanner.specs.Grammar.{slash, star, bang, Form, block_comment, inner_block_doc, outer_block_doc, is_block, Single, Comment, Rest, bare, line, slashes, innerLine, outerLine, empty, emptyStar, block, stars, around, innerBlock, outerBlock, close, single, nested}
+use Rattle.scanner.specs.Grammar.{slash, star, bang, Form, block_comment, inner_block_doc, outer_block_doc, is_block, Single, Comment, Rest, bare, line, slashes, inner_line, outer_line, empty, empty_star, block, stars, around, inner_block, outer_block, close, single, nested}
 use Rattle.scanner.specs.Comments.{block_style}
 use Rattle.scanner.specs.Reading.{kind_of}
 use Rattle.scanner.proofs.Across.{across}
@@ -15,7 +15,7 @@ pub record Formed (r : List ℕ) : Type 0 where
   pub whole : Comment form (slash ∷ star ∷ r)
 
 after_star : {xs : List ℕ} → Rest xs → Single (star ∷ xs) → Formed (star ∷ xs)
-after_star close s = record { form = block_comment; blocks = refl; whole = emptyStar }
+after_star close s = record { form = block_comment; blocks = refl; whole = empty_star }
 after_star (single y ys t r) s =
     ⊎_elim
     (λ (e : y ≡ slash). absurd (true≢false (ap (λ z. z || false) (sym (eq-eqb y slash e)) ∙ s)))
@@ -24,7 +24,7 @@ after_star (single y ys t r) s =
     (λ (e : y ≡ star).
     subst (λ z. Formed (star ∷ z ∷ ys)) (sym e)
     (record { form = block_comment; blocks = refl; whole = stars ys (subst (λ z. Single (z ∷ ys)) e t) r }))
-    (λ (n : y ≢ star). record { form = outer_block_doc; blocks = refl; whole = outerBlock y ys n m r })
+    (λ (n : y ≢ star). record { form = outer_block_doc; blocks = refl; whole = outer_block y ys n m r })
     (cases_eq y star))
     (cases_eq y slash)
 after_star (nested f c ys b k r) s =
@@ -38,7 +38,7 @@ formed (single x xs s r) =
     (λ (e : x ≡ star). subst (λ z. Formed (z ∷ xs)) (sym e) (after_star r (subst (λ z. Single (z ∷ xs)) e s)))
     (λ (n : x ≢ star).
     ⊎_elim
-    (λ (e : x ≡ bang). subst (λ z. Formed (z ∷ xs)) (sym e) (record { form = inner_block_doc; blocks = refl; whole = innerBlock xs r }))
+    (λ (e : x ≡ bang). subst (λ z. Formed (z ∷ xs)) (sym e) (record { form = inner_block_doc; blocks = refl; whole = inner_block xs r }))
     (λ (m : x ≢ bang). record { form = block_comment; blocks = refl; whole = block x xs n m s r })
     (cases_eq x bang))
     (cases_eq x star)
@@ -57,12 +57,12 @@ pub block_kind : {f : Form} {t : List ℕ} (ys : List ℕ) → Comment f t → i
 block_kind ys bare b = absurd (false≢true b)
 block_kind ys (line x xs n m i) b = absurd (false≢true b)
 block_kind ys (slashes xs i) b = absurd (false≢true b)
-block_kind ys (innerLine xs i) b = absurd (false≢true b)
-block_kind ys (outerLine xs n i) b = absurd (false≢true b)
+block_kind ys (inner_line xs i) b = absurd (false≢true b)
+block_kind ys (outer_line xs n i) b = absurd (false≢true b)
 block_kind ys empty b = refl
-block_kind ys emptyStar b = refl
+block_kind ys empty_star b = refl
 block_kind ys (block x xs n m s r) b = ap (λ d. BlockComment d true) (plain_style x (xs ++ ys) n m)
 block_kind ys (stars xs s r) b = refl
 block_kind ys (around f c xs p k r) b = let o = across k p in ap (λ z. BlockComment (block_style (slash ∷ star ∷ ((z ++ xs) ++ ys))) true) o.opens
-block_kind ys (innerBlock xs r) b = refl
-block_kind ys (outerBlock x xs n m r) b = ap (λ d. BlockComment d true) (outer_style x (xs ++ ys) n m)
+block_kind ys (inner_block xs r) b = refl
+block_kind ys (outer_block x xs n m r) b = ap (λ d. BlockComment d true) (outer_style x (xs ++ ys) n m)

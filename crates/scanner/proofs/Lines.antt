@@ -4,7 +4,7 @@ use Rattle.std.specs.List.{prefix_len}
 use Rattle.raw.specs.declared.kinds.DocStyle.TheVariants.{Inner, Outer}
 use Rattle.raw.specs.declared.kinds.RawKind.TheVariants.{LineComment}
 use Rattle.std.proofs.lemmas.Bool.{true≢false, eqb-true, eqb-false, eq-eqb, ne_eqb, cases_eq}
-use Rattle.scanner.specs.Grammar.{slash, bang, lf, Form, line_comment, inner_line_doc, outer_line_doc, is_block, InLine, Comment, bare, line, slashes, innerLine, outerLine, empty, emptyStar, block, stars, around, innerBlock, outerBlock}
+use Rattle.scanner.specs.Grammar.{slash, bang, lf, Form, line_comment, inner_line_doc, outer_line_doc, is_block, InLine, Comment, bare, line, slashes, inner_line, outer_line, empty, empty_star, block, stars, around, inner_block, outer_block}
 use Rattle.scanner.specs.Comments.{in_line, line_style}
 use Rattle.scanner.specs.Reading.{kind_of, LineEnds, Stands, Follows}
 
@@ -40,8 +40,8 @@ plain_line : (x : ℕ) (xs : List ℕ) → x ≢ slash → x ≢ bang → line_s
 plain_line x xs n m =
     ap₂ (λ u v. cond u (Some Inner) (cond (v && not (eqb (get_or xs 0 0) slash)) (Some Outer) None)) (ne_eqb x bang m) (ne_eqb x slash n)
 
-outer_line : (xs : List ℕ) → get_or xs 0 0 ≢ slash → line_style (slash ∷ slash ∷ slash ∷ xs) ≡ Some Outer
-outer_line xs n = ap (λ u. cond (not u) (Some Outer) None) (ne_eqb (get_or xs 0 0) slash n)
+outer_line_lem : (xs : List ℕ) → get_or xs 0 0 ≢ slash → line_style (slash ∷ slash ∷ slash ∷ xs) ≡ Some Outer
+outer_line_lem xs n = ap (λ u. cond (not u) (Some Outer) None) (ne_eqb (get_or xs 0 0) slash n)
 
 ends_other : (a : ℕ) (ys : List ℕ) → a ≢ 0 → a ≢ lf → LineEnds ys → get_or ys 0 0 ≢ a
 ends_other a [] n m e h = n (sym h)
@@ -76,7 +76,7 @@ third_slash k zs l =
     ⊎_elim
     (λ (e : get_or zs 0 0 ≡ slash). four_slashes k zs e l)
     (λ (n : get_or zs 0 0 ≢ slash).
-    formed (suc k) (slash ∷ zs) outer_line_doc l.within (outerLine (take k zs) (take_first k zs slash (omega arith) n) l.front.1) l.ends)
+    formed (suc k) (slash ∷ zs) outer_line_doc l.within (outer_line (take k zs) (take_first k zs slash (omega arith) n) l.front.1) l.ends)
     (cases_eq (get_or zs 0 0) slash)
 
 pub lined : (n : ℕ) (ys : List ℕ) → Line n ys → Lined n ys
@@ -89,7 +89,7 @@ lined (suc k) (y ∷ zs) l =
     ⊎_elim
     (λ (e : y ≡ bang).
     subst (λ z. Lined (suc k) (z ∷ zs)) (sym e)
-    (formed (suc k) (bang ∷ zs) inner_line_doc l.within (innerLine (take k zs) l.front.1) l.ends))
+    (formed (suc k) (bang ∷ zs) inner_line_doc l.within (inner_line (take k zs) l.front.1) l.ends))
     (λ (m : y ≢ bang). formed (suc k) (y ∷ zs) line_comment l.within (line y (take k zs) n m l.front) l.ends)
     (cases_eq y bang))
     (cases_eq y slash)
@@ -113,12 +113,12 @@ pub told : {f : Form} {t : List ℕ} (ys : List ℕ) → Comment f t → is_bloc
 told ys bare b e = record { rest = []; opens = refl; lines = (slash_in, (slash_in, tt)); kind = ap LineComment (bare_style ys e); ends = e }
 told ys (line x xs n m i) b e = record { rest = x ∷ xs; opens = refl; lines = (slash_in, (slash_in, i)); kind = ap LineComment (plain_line x (xs ++ ys) n m); ends = e }
 told ys (slashes xs i) b e = record { rest = slash ∷ slash ∷ xs; opens = refl; lines = (slash_in, (slash_in, (slash_in, (slash_in, i)))); kind = refl; ends = e }
-told ys (innerLine xs i) b e = record { rest = bang ∷ xs; opens = refl; lines = (slash_in, (slash_in, ((omega arith), i))); kind = refl; ends = e }
-told ys (outerLine xs n i) b e = record { rest = slash ∷ xs; opens = refl; lines = (slash_in, (slash_in, (slash_in, i))); kind = ap LineComment (outer_line (xs ++ ys) (first_other xs ys n e)); ends = e }
+told ys (inner_line xs i) b e = record { rest = bang ∷ xs; opens = refl; lines = (slash_in, (slash_in, ((omega arith), i))); kind = refl; ends = e }
+told ys (outer_line xs n i) b e = record { rest = slash ∷ xs; opens = refl; lines = (slash_in, (slash_in, (slash_in, i))); kind = ap LineComment (outer_line_lem (xs ++ ys) (first_other xs ys n e)); ends = e }
 told ys empty b e = absurd (true≢false b)
-told ys emptyStar b e = absurd (true≢false b)
+told ys empty_star b e = absurd (true≢false b)
 told ys (block x xs n m s r) b e = absurd (true≢false b)
 told ys (stars xs s r) b e = absurd (true≢false b)
 told ys (around f c xs p k r) b e = absurd (true≢false b)
-told ys (innerBlock xs r) b e = absurd (true≢false b)
-told ys (outerBlock x xs n m r) b e = absurd (true≢false b)
+told ys (inner_block xs r) b e = absurd (true≢false b)
+told ys (outer_block x xs n m r) b e = absurd (true≢false b)

@@ -60,19 +60,19 @@ mutual
     line : (x : ℕ) (xs : List ℕ) → x ≢ slash → x ≢ bang → InLine (x ∷ xs) → Comment line_comment (slash ∷ slash ∷ x ∷ xs)
     slashes : (xs : List ℕ) → InLine xs → Comment line_comment (slash ∷ slash ∷ slash ∷ slash ∷ xs)
     -- INNER_LINE_DOC: `//!`
-    innerLine : (xs : List ℕ) → InLine xs → Comment inner_line_doc (slash ∷ slash ∷ bang ∷ xs)
+    inner_line : (xs : List ℕ) → InLine xs → Comment inner_line_doc (slash ∷ slash ∷ bang ∷ xs)
     -- OUTER_LINE_DOC: `///`, and no fourth `/`
-    outerLine : (xs : List ℕ) → slice_index xs 0 ≢ slash → InLine xs → Comment outer_line_doc (slash ∷ slash ∷ slash ∷ xs)
+    outer_line : (xs : List ℕ) → slice_index xs 0 ≢ slash → InLine xs → Comment outer_line_doc (slash ∷ slash ∷ slash ∷ xs)
     -- BLOCK_COMMENT: `/**/`; `/***/`; `/*` and a character other than `*` and `!`, or `**`, or a nested comment
     empty : Comment block_comment (slash ∷ star ∷ star ∷ slash ∷ [])
-    emptyStar : Comment block_comment (slash ∷ star ∷ star ∷ star ∷ slash ∷ [])
+    empty_star : Comment block_comment (slash ∷ star ∷ star ∷ star ∷ slash ∷ [])
     block : (x : ℕ) (xs : List ℕ) → x ≢ star → x ≢ bang → Single (x ∷ xs) → Rest xs → Comment block_comment (slash ∷ star ∷ x ∷ xs)
     stars : (xs : List ℕ) → Single (star ∷ xs) → Rest xs → Comment block_comment (slash ∷ star ∷ star ∷ star ∷ xs)
     around : (f : Form) (c xs : List ℕ) → is_block f ≡ true → Comment f c → Rest xs → Comment block_comment (slash ∷ star ∷ (c ++ xs))
     -- INNER_BLOCK_DOC: `/*!`
-    innerBlock : (xs : List ℕ) → Rest xs → Comment inner_block_doc (slash ∷ star ∷ bang ∷ xs)
+    inner_block : (xs : List ℕ) → Rest xs → Comment inner_block_doc (slash ∷ star ∷ bang ∷ xs)
     -- OUTER_BLOCK_DOC: `/**` and a character other than `*` and `/`, so no nested comment comes first
-    outerBlock : (x : ℕ) (xs : List ℕ) → x ≢ star → x ≢ slash → Rest xs → Comment outer_block_doc (slash ∷ star ∷ star ∷ x ∷ xs)
+    outer_block : (x : ℕ) (xs : List ℕ) → x ≢ star → x ≢ slash → Rest xs → Comment outer_block_doc (slash ∷ star ∷ star ∷ x ∷ xs)
 
   -- the rest of a block comment, up to its end: single characters and nested comments in a row, then `*/`
   pub data Rest : List ℕ → Type 0 where

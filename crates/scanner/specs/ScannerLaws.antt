@@ -1,5 +1,5 @@
 -- A scanner keeps the laws of a source. Assumes nothing.
-use Rattle.std.specs.Prelude.{◌≡◌, ℕ, zero, suc, ◌+◌, ◌<◌, ◌≤◌, Bool, true, false, cond, ◌&&◌, ◌||◌, List, [], ◌∷◌, map, length, drop, Some, None, Option, ◌==◌, nat_le, nat_lt, slice_index, slice_index_or, refl}
+use Rattle.std.specs.Prelude.{◌≡◌, ℕ, zero, suc, ◌+◌, ◌<◌, ◌≤◌, Bool, true, false, cond, ◌&&◌, ◌||◌, List, [], ◌∷◌, map, length, drop, Some, None, Option, ◌==◌, nat_le, nat_lt, slice_index, refl}
 use Rattle.std.proofs.Common.{sym, ap, ◌∙◌, ⊎_elim, arith}
 use Rattle.std.specs.Int.{is_in_range}
 use Rattle.std.proofs.lemmas.List.{get_or-drop, length-drop, drop-drop, get_or_past}
@@ -63,7 +63,7 @@ pub record Last (n : ℕ) (xs : List ℕ) : Type 0 where
   pub before : ℕ
   pub next : n ≡ suc before
   pub within : before < length xs
-  pub byte : slice_index_or xs before 0 ≡ slash
+  pub byte : slice_index xs before ≡ slash
 
 last_on : (x n : ℕ) (xs : List ℕ) (o : Option ℕ) → ((m : ℕ) → o ≡ Some m → Last m xs) → further o ≡ Some n → Last n (x ∷ xs)
 last_on x n xs None ih e = let z : ◌≡◌ {A = ℕ} 0 1 = cc in absurd (omega arith)
@@ -172,7 +172,7 @@ module _ (bs : List ℕ) (p : ℕ) (a : admits bs ≡ true) (l : p < length bs) 
   block_by_lem (Some n) is =
       let last = closing_last (drop 2 (drop p bs)) 0 n is in
       let k = p + 2 + last.before in
-      let byte : slice_index_or bs k 0 ≡ slash = sym (get_or-drop (p + 2) bs last.before 0) ∙ (ap (λ z. slice_index z last.before) (sym (drop-drop 2 p bs)) ∙ last.byte) in
+      let byte : slice_index bs k ≡ slash = sym (get_or-drop (p + 2) bs last.before 0) ∙ (ap (λ z. slice_index z last.before) (sym (drop-drop 2 p bs)) ∙ last.byte) in
       let inside : k < length bs = omega (arith, last.within, length-drop 2 (drop p bs), length-drop p bs) in
       ordinary_keeps bs p (k + 1) (block_by (drop p bs) (Some n)) refl
       (record { some = omega arith; within = omega arith; at = ascii_after bs k a inside (omega arith) }) (omega (arith, last.next))

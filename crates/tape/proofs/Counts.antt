@@ -32,32 +32,32 @@ module _ (bs : List ℕ) (column : ℕ) where
       omega arith
 
   -- the lowest place that the mark with the number i may have
-  abbrev leastAt : ℕ → List Mark → ℕ → ℕ
-  leastAt least ms zero = least
-  leastAt least ms (suc i) = (nth ms i).place + 1
+  abbrev least_at : ℕ → List Mark → ℕ → ℕ
+  least_at least ms zero = least
+  least_at least ms (suc i) = (nth ms i).place + 1
 
-  least_next : (least : ℕ) (m : Mark) (ms : List Mark) (i : ℕ) → leastAt (m.place + 1) ms i ≡ leastAt least (m ∷ ms) (suc i)
+  least_next : (least : ℕ) (m : Mark) (ms : List Mark) (i : ℕ) → least_at (m.place + 1) ms i ≡ least_at least (m ∷ ms) (suc i)
   least_next least m ms zero = refl
   least_next least m ms (suc i) = refl
 
-  count_step : (least : ℕ) (m : Mark) (ms : List Mark) (i : ℕ) (b : Bool) → lawful bs column least m ≡ b → ((j : ℕ) → j < lawful_from bs column (m.place + 1) ms → lawful bs column (leastAt (m.place + 1) ms j) (nth ms j) ≡ true) → i < cond b (suc (lawful_from bs column (m.place + 1) ms)) 0 → lawful bs column (leastAt least (m ∷ ms) i) (nth (m ∷ ms) i) ≡ true
+  count_step : (least : ℕ) (m : Mark) (ms : List Mark) (i : ℕ) (b : Bool) → lawful bs column least m ≡ b → ((j : ℕ) → j < lawful_from bs column (m.place + 1) ms → lawful bs column (least_at (m.place + 1) ms j) (nth ms j) ≡ true) → i < cond b (suc (lawful_from bs column (m.place + 1) ms)) 0 → lawful bs column (least_at least (m ∷ ms) i) (nth (m ∷ ms) i) ≡ true
   count_step least m ms i false e ih l = absurd (omega arith)
   count_step least m ms zero true e ih l = e
   count_step least m ms (suc i) true e ih l = ap (λ k. lawful bs column k (nth ms i)) (sym (least_next least m ms i)) ∙ ih i (omega arith)
 
   -- each mark of the count keeps the rules
-  counted : (least : ℕ) (ms : List Mark) (i : ℕ) → i < lawful_from bs column least ms → lawful bs column (leastAt least ms i) (nth ms i) ≡ true
+  counted : (least : ℕ) (ms : List Mark) (i : ℕ) → i < lawful_from bs column least ms → lawful bs column (least_at least ms i) (nth ms i) ≡ true
   counted least [] i l = absurd (omega arith)
   counted least (m ∷ ms) i l = count_step least m ms i (lawful bs column least m) refl (counted (m.place + 1) ms) l
 
-  stop_step : (least : ℕ) (m : Mark) (ms : List Mark) (b : Bool) → lawful bs column least m ≡ b → (lawful_from bs column (m.place + 1) ms < length ms → lawful bs column (leastAt (m.place + 1) ms (lawful_from bs column (m.place + 1) ms)) (nth ms (lawful_from bs column (m.place + 1) ms)) ≡ false) → cond b (suc (lawful_from bs column (m.place + 1) ms)) 0 < suc (length ms) → lawful bs column (leastAt least (m ∷ ms) (cond b (suc (lawful_from bs column (m.place + 1) ms)) 0)) (nth (m ∷ ms) (cond b (suc (lawful_from bs column (m.place + 1) ms)) 0)) ≡ false
+  stop_step : (least : ℕ) (m : Mark) (ms : List Mark) (b : Bool) → lawful bs column least m ≡ b → (lawful_from bs column (m.place + 1) ms < length ms → lawful bs column (least_at (m.place + 1) ms (lawful_from bs column (m.place + 1) ms)) (nth ms (lawful_from bs column (m.place + 1) ms)) ≡ false) → cond b (suc (lawful_from bs column (m.place + 1) ms)) 0 < suc (length ms) → lawful bs column (least_at least (m ∷ ms) (cond b (suc (lawful_from bs column (m.place + 1) ms)) 0)) (nth (m ∷ ms) (cond b (suc (lawful_from bs column (m.place + 1) ms)) 0)) ≡ false
   stop_step least m ms false e ih l = e
   stop_step least m ms true e ih l =
       let n = lawful_from bs column (m.place + 1) ms in
       ap (λ k. lawful bs column k (nth ms n)) (sym (least_next least m ms n)) ∙ ih (omega arith)
 
   -- the mark that ends the count breaks them
-  stopped : (least : ℕ) (ms : List Mark) → lawful_from bs column least ms < length ms → lawful bs column (leastAt least ms (lawful_from bs column least ms)) (nth ms (lawful_from bs column least ms)) ≡ false
+  stopped : (least : ℕ) (ms : List Mark) → lawful_from bs column least ms < length ms → lawful bs column (least_at least ms (lawful_from bs column least ms)) (nth ms (lawful_from bs column least ms)) ≡ false
   stopped least [] l = absurd (omega arith)
   stopped least (m ∷ ms) l = stop_step least m ms (lawful bs column least m) refl (stopped (m.place + 1) ms) l
 
@@ -73,18 +73,18 @@ module _ (bs : List ℕ) (column : ℕ) where
   count_within ms = few 0 ms
 
   -- the test and the rules in words
-  after_by : (ms : List Mark) (i : ℕ) → leastAt 0 ms i ≤ (nth ms i).place → (j : ℕ) → j + 1 ≡ i → (nth ms j).place < (nth ms i).place
+  after_by : (ms : List Mark) (i : ℕ) → least_at 0 ms i ≤ (nth ms i).place → (j : ℕ) → j + 1 ≡ i → (nth ms j).place < (nth ms i).place
   after_by ms zero l j e = absurd (omega arith)
   after_by ms (suc i) l j e = let same : j ≡ i = omega arith in subst (λ k. (nth ms k).place < (nth ms (suc i)).place) (sym same) (omega arith)
 
-  least_by : (ms : List Mark) (i : ℕ) → ((j : ℕ) → j + 1 ≡ i → (nth ms j).place < (nth ms i).place) → leastAt 0 ms i ≤ (nth ms i).place
+  least_by : (ms : List Mark) (i : ℕ) → ((j : ℕ) → j + 1 ≡ i → (nth ms j).place < (nth ms i).place) → least_at 0 ms i ≤ (nth ms i).place
   least_by ms zero after = omega arith
   least_by ms (suc i) after = omega (arith, after i (omega arith))
 
-  in_words : (ms : List Mark) (i : ℕ) → lawful bs column (leastAt 0 ms i) (nth ms i) ≡ true → Lawful bs column ms i
+  in_words : (ms : List Mark) (i : ℕ) → lawful bs column (least_at 0 ms i) (nth ms i) ≡ true → Lawful bs column ms i
   in_words ms i e =
       let m = nth ms i in
-      let least = leastAt 0 ms i in
+      let least = least_at 0 ms i in
       let two = and_parts (begins bs m.place && leb least m.place) (has_part column m && keeps bs m.place (token_of m) (fault_count m)) e in
       let place = and_parts (begins bs m.place) (leb least m.place) two.0 in
       let rest = and_parts (has_part column m) (keeps bs m.place (token_of m) (fault_count m)) two.1 in
@@ -97,10 +97,10 @@ module _ (bs : List ℕ) (column : ℕ) where
         kept = rest.1;
       }
 
-  from_words : (ms : List Mark) (i : ℕ) → Lawful bs column ms i → lawful bs column (leastAt 0 ms i) (nth ms i) ≡ true
+  from_words : (ms : List Mark) (i : ℕ) → Lawful bs column ms i → lawful bs column (least_at 0 ms i) (nth ms i) ≡ true
   from_words ms i h =
       let m = nth ms i in
-      let least = leastAt 0 ms i in
+      let least = least_at 0 ms i in
       and_from (begins bs m.place && leb least m.place) (has_part column m && keeps bs m.place (token_of m) (fault_count m))
       (and_from (begins bs m.place) (leb least m.place) h.there (le-leb least m.place (least_by ms i h.after)))
       (and_from (has_part column m) (keeps bs m.place (token_of m) (fault_count m))

@@ -45,8 +45,8 @@ module _ (bs : List ℕ) (ms : List Mark) (fs : List EscapeError) (n : ℕ) wher
   abbrev first : Bool → Bool → Option Refusal → Option Refusal
   first short whole o = cond short (cond whole o (Some (refused.NotUtf8 (ill_formed bs)))) (Some refused.TooLong)
 
-  abbrev script-first : Bool → Bool → Option NoScript
-  script-first short whole = cond short (cond whole None (Some (script.NotUtf8 (ill_formed bs)))) (Some script.TooLong)
+  abbrev script_first : Bool → Bool → Option NoScript
+  script_first short whole = cond short (cond whole None (Some (script.NotUtf8 (ill_formed bs)))) (Some script.TooLong)
 
   joined : (o : Option Refusal) → admission.Judged bs None → JudgedOver bs ms fs n o → Judged bs ms fs n o
   joined None a j = (a, j)
@@ -55,7 +55,7 @@ module _ (bs : List ℕ) (ms : List Mark) (fs : List EscapeError) (n : ℕ) wher
   joined (Some (refused.Mark k)) a j = (a, j)
   joined (Some (refused.Shebang k)) a j = (a, j)
 
-  judged_by : (short whole : Bool) (o : Option Refusal) → admission.Judged bs (script-first short whole) → JudgedOver bs ms fs n o → Judged bs ms fs n (first short whole o)
+  judged_by : (short whole : Bool) (o : Option Refusal) → admission.Judged bs (script_first short whole) → JudgedOver bs ms fs n o → Judged bs ms fs n (first short whole o)
   judged_by true true o a j = joined o a j
   judged_by true false o a j = a
   judged_by false whole o a j = a
@@ -78,22 +78,22 @@ module _ (bs : List ℕ) (ms : List Mark) (fs : List EscapeError) (n : ℕ) wher
       (passes_by (leb (length bs) most) (eqb (ill_formed bs) (length bs)) (refusal_over bs ms fs n) r e (passed_over (refusal_over bs ms fs n) refl))
 
   -- where the bytes are a script, the marks alone are refused; else why the bytes are none
-  none_by : (short whole : Bool) (o : Option Refusal) → None ≡ script-first short whole → o ≡ first short whole o
+  none_by : (short whole : Bool) (o : Option Refusal) → None ≡ script_first short whole → o ≡ first short whole o
   none_by true true o e = refl
   none_by true false o e = let z : ◌≡◌ {A = ℕ} 0 1 = cc in absurd (omega arith)
   none_by false whole o e = let z : ◌≡◌ {A = ℕ} 0 1 = cc in absurd (omega arith)
 
-  ill_by : (short whole : Bool) (o : Option Refusal) (at : ℕ) → Some (script.NotUtf8 at) ≡ script-first short whole → Some (refused.NotUtf8 at) ≡ first short whole o
+  ill_by : (short whole : Bool) (o : Option Refusal) (at : ℕ) → Some (script.NotUtf8 at) ≡ script_first short whole → Some (refused.NotUtf8 at) ≡ first short whole o
   ill_by true true o at e = let z : ◌≡◌ {A = ℕ} 0 1 = cc in absurd (omega arith)
   ill_by true false o at e = let same : at ≡ ill_formed bs = cc in ap (λ (k : ℕ). Some (refused.NotUtf8 k)) same
   ill_by false whole o at e = let z : ◌≡◌ {A = ℕ} 0 1 = cc in absurd (omega arith)
 
-  long_by : (short whole : Bool) (o : Option Refusal) → Some script.TooLong ≡ script-first short whole → Some refused.TooLong ≡ first short whole o
+  long_by : (short whole : Bool) (o : Option Refusal) → Some script.TooLong ≡ script_first short whole → Some refused.TooLong ≡ first short whole o
   long_by true true o e = let z : ◌≡◌ {A = ℕ} 0 1 = cc in absurd (omega arith)
   long_by true false o e = let z : ◌≡◌ {A = ℕ} 0 1 = cc in absurd (omega arith)
   long_by false whole o e = refl
 
-  script_by : (short whole : Bool) → None ≡ script-first short whole → cond (short && whole) bs [] ≡ bs
+  script_by : (short whole : Bool) → None ≡ script_first short whole → cond (short && whole) bs [] ≡ bs
   script_by true true e = refl
   script_by true false e = let z : ◌≡◌ {A = ℕ} 0 1 = cc in absurd (omega arith)
   script_by false whole e = let z : ◌≡◌ {A = ℕ} 0 1 = cc in absurd (omega arith)
