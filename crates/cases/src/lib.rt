@@ -1,4 +1,4 @@
-// Examples: evaluated from the definitions in one theorem, and run as tests.
+// Examples: evaluated from the definitions in two theorems, and run as tests.
 #![tactic(auto)]
 
 ghost use Rattle.std.specs.Prelude.{◌≡◌};
