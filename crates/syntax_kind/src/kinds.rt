@@ -1,4 +1,5 @@
-// Every syntax kind as its number, in the order of the enum `SyntaxKind` of ra_ap_parser.
+// Every syntax kind as its number, in the order of the enum `SyntaxKind` of ra_ap_parser. They are numbers and no enum:
+// calls take any 16-bit number and refuse what is past the last, and columns of numbers are lent.
 
 // Marks that never stand in a finished tree.
 pub const TOMBSTONE: u16 = 0;

@@ -5,24 +5,18 @@ ghost use Rattle.std.specs.Prelude.{◌≡◌};
 ghost use Rattle.syntax_kind.specs.Refusals.{refusal_number};
 ghost use Rattle.syntax_kind.specs.Trivia.{trivia_answer};
 
+mod editions;
 mod keywords;
 pub mod kinds;
 mod tables;
 
+pub use editions::{Edition, UnknownEdition};
 pub use keywords::{from_contextual_keyword, from_keyword};
-
-pub const EDITION_2015: u8 = 0;
-
-pub const EDITION_2018: u8 = 1;
-
-pub const EDITION_2021: u8 = 2;
-
-pub const EDITION_2024: u8 = 3;
 
 /// Why a call refuses to answer.
 #[derive(Clone, Copy, Debug, PartialEq, Eq)]
 pub enum Refusal {
-    /// The edition is past `EDITION_2024`.
+    /// The edition is past that of `Edition::Edition2024`.
     Edition,
     /// The kind is past `kinds::__LAST`.
     Kind,

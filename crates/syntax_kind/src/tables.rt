@@ -1,36 +1,63 @@
 // The keywords as tables.
-use crate::{EDITION_2015, EDITION_2018, EDITION_2024, kinds};
+ghost use Rattle.std.specs.Prelude.{◌≡◌, ◌&&◌, nat_le};
+ghost use Rattle.syntax_kind.specs.Editions.{edition_number};
+
+use crate::Edition::{self, Edition2015, Edition2018, Edition2024};
+use crate::kinds;
 
 /// The editions from the first to the last, both included.
+// No `RangeInclusive`: a constant's value may not call, and `a..=b` calls `RangeInclusive::new`.
 #[derive(Clone, Copy)]
 pub struct Editions {
-    pub first: u8,
-    pub last: u8,
+    pub first: Edition,
+    pub last: Edition,
+}
+
+impl Editions {
+    /// Whether the edition is one of these.
+    pub fn contains(self, edition: Edition) -> bool
+        ensures { result ≡ (nat_le (edition_number self.first) (edition_number edition) && nat_le (edition_number edition) (edition_number self.last)) }
+    {
+        self.first <= edition && edition <= self.last
+    }
 }
 
 const EVERY: Editions = Editions {
-    first: EDITION_2015,
-    last: EDITION_2024,
+    first: Edition2015,
+    last: Edition2024,
 };
 
 const ONLY_2015: Editions = Editions {
-    first: EDITION_2015,
-    last: EDITION_2015,
+    first: Edition2015,
+    last: Edition2015,
 };
 
 const FROM_2018: Editions = Editions {
-    first: EDITION_2018,
-    last: EDITION_2024,
+    first: Edition2018,
+    last: Edition2024,
 };
 
 const FROM_2024: Editions = Editions {
-    first: EDITION_2024,
-    last: EDITION_2024,
+    first: Edition2024,
+    last: Edition2024,
 };
 
 /// A keyword: its text, its kind, and the editions that have it.
 #[derive(Clone, Copy)]
 pub struct Keyword(pub &'static [u8], pub u16, pub Editions);
+
+impl Keyword {
+    ghost use Rattle.syntax_kind.specs.Keywords.{fits};
+    ghost use Rattle.syntax_kind.specs.Tables.{entry_of};
+
+    /// Whether `ident` is this keyword in the edition.
+    pub fn is_named(&self, ident: &[u8], edition: Edition) -> bool
+        ensures { result ≡ fits (entry_of self.now) ident.now (edition_number edition) }
+    {
+        let Keyword(text, _, editions) = *self;
+        editions.contains(edition) && text == ident
+    }
+}
 
 /// The strict keywords: such a text is a keyword wherever it stands.
 pub const STRICT: [Keyword; 52] = [
