@@ -1,15 +1,15 @@
 -- One character as a token: it keeps the laws of a source wherever a token begins. Assumes nothing.
-use Rattle.std.proofs.Common.{◌≡◌, ℕ, ◌+◌, ◌-◌, ◌<◌, ◌≤◌, true, ◌&&◌, ltb, leb, List, [], ◌∷◌, ◌++◌, length, take, drop, sym, refl, ap, ◌∙◌, arith, take-add}
+use Rattle.std.proofs.Common.{◌≡◌, ℕ, ◌+◌, ◌-◌, ◌<◌, ◌≤◌, Bool, true, false, ◌&&◌, cond, ltb, leb, Ok, Err, List, [], ◌∷◌, ◌++◌, length, take, drop, sym, refl, ap, ◌∙◌, arith, take-add}
 use Rattle.std.specs.List.{between, flat_map}
 use Rattle.std.proofs.lemmas.List.{flat_map_more}
 use Rattle.std.proofs.ByRecursion.{All-push}
 use Rattle.std.proofs.lemmas.Bool.{and_parts, and_from, ltb-true, lt-ltb, le-leb}
-use Rattle.script.specs.Admission.{admits}
+use Rattle.script.specs.Admission.{most, admits}
 use Rattle.script.specs.Sequences.{sequence, Sequence}
 use Rattle.script.specs.Utf8Table.{utf8}
 use Rattle.script.specs.Places.{boundary}
 use Rattle.script.proofs.Runs.{sequence_within}
-use Rattle.script.proofs.Bounds.{admitted_well, begins_there, boundary_cuts, boundaries, character}
+use Rattle.script.proofs.Bounds.{admitted_short, admitted_well, begins_there, boundary_cuts, boundaries, character}
 use Rattle.raw.specs.declared.kinds.RawKind.TheVariants.{Unknown}
 use Rattle.raw.specs.Answers.{begins}
 use Rattle.raw.specs.Laws.{keeps}
@@ -42,3 +42,14 @@ character_keeps bs p a e =
     (and_from (ltb 0 n) (leb (p + n) (length bs) && boundary bs (p + n)) (lt-ltb 0 n (some_bytes bs p a l b))
     (and_from (leb (p + n) (length bs)) (boundary bs (p + n)) (le-leb (p + n) (length bs) (ends_within bs p a l b)) (ends_at_boundary bs p a l b)))
     (and_from true (leb 0 n) refl (le-leb 0 n (omega arith)))
+
+-- the length of a character that is answered fits 32 bits
+short_by : {E : Type 0} (bs : List ℕ) (p n : ℕ) (why : E) (b : Bool) → admits bs ≡ true → begins bs p ≡ b → cond b (Ok (sequence utf8 bs p)) (Err why) ≡ Ok n → n ≤ most
+short_by bs p n why true a e s =
+    let both = and_parts (ltb p (length bs)) (boundary bs p) e in
+    let same : sequence utf8 bs p ≡ n = cc in
+    omega (arith, admitted_short bs a, ends_within bs p a (ltb-true p (length bs) both.0) both.1)
+short_by bs p n why false a e s = cc
+
+pub character_short : {E : Type 0} (bs : List ℕ) (p n : ℕ) (why : E) → admits bs ≡ true → cond (begins bs p) (Ok (sequence utf8 bs p)) (Err why) ≡ Ok n → n ≤ most
+character_short bs p n why a s = short_by bs p n why (begins bs p) a refl s

@@ -1,12 +1,12 @@
 // The raw kinds: what a raw lexer calls a token, with the flags that lexing reads.
 
-#[derive(Clone, Copy)]
+#[derive(Clone, Copy, Debug, PartialEq, Eq)]
 pub enum DocStyle {
     Outer,
     Inner,
 }
 
-#[derive(Clone, Copy)]
+#[derive(Clone, Copy, Debug, PartialEq, Eq)]
 pub enum LiteralKind {
     Int { empty_int: bool },
     Float { empty_exponent: bool },
@@ -21,7 +21,7 @@ pub enum LiteralKind {
     RawCStr { valid: bool },
 }
 
-#[derive(Clone, Copy)]
+#[derive(Clone, Copy, Debug, PartialEq, Eq)]
 pub enum RawKind {
     LineComment {
         doc_style: Option<DocStyle>,
@@ -80,14 +80,14 @@ pub enum RawKind {
     Eof,
 }
 
-#[derive(Clone, Copy)]
+#[derive(Clone, Copy, Debug, PartialEq, Eq)]
 pub struct RawToken {
     pub kind: RawKind,
     pub len: u32,
 }
 
 // What can be wrong with an escape or a character of a literal.
-#[derive(Clone, Copy)]
+#[derive(Clone, Copy, Debug, PartialEq, Eq)]
 pub enum EscapeError {
     ZeroChars,
     MoreThanOneChar,

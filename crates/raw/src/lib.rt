@@ -2,19 +2,23 @@
 #![tactic(auto)]
 
 ghost use Rattle.std.specs.Prelude.{◌≡◌, ℕ, List};
-ghost use Rattle.raw.specs.Answers.{number, token_answer, fault_answer};
+ghost use Rattle.raw.specs.Answers.{number, token_answer, fault_answer, refusal_text};
 ghost use Rattle.raw.specs.Laws.{Laws};
 ghost use Rattle.raw.specs.declared.kinds.RawToken.{RawToken};
 ghost use Rattle.raw.specs.declared.kinds.EscapeError.{EscapeError};
 
 use script::Script;
+use std::error::Error;
+use std::fmt;
 
+mod character;
 mod kinds;
 
+pub use character::begins;
 pub use kinds::{DocStyle, EscapeError, LiteralKind, RawKind, RawToken};
 
 // Why a source has no answer.
-#[derive(Clone, Copy)]
+#[derive(Clone, Copy, Debug, PartialEq, Eq)]
 pub enum Refusal {
     // No character begins at the place.
     NoToken,
@@ -32,6 +36,21 @@ impl Refusal {
         }
     }
 }
+
+impl fmt::Display for Refusal {
+    ghost use Rattle.std.specs.Prelude.{Some};
+
+    ghost output = { λ why. Some (refusal_text why) };
+
+    fn fmt<W: fmt::Write>(&self, f: &mut fmt::Formatter<W>) -> fmt::Result {
+        f.write_str(match self {
+            Refusal::NoToken => "no token begins there",
+            Refusal::NoFault => "the token has no fault of that number",
+        })
+    }
+}
+
+impl Error for Refusal {}
 
 // A raw lexer and the unescaping, over one script.
 pub trait RawSource {
