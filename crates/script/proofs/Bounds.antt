@@ -1,16 +1,16 @@
 -- Boundaries and characters of UTF-8: a place is a boundary exactly where whole characters stand before it. Assumes nothing.
-use Rattle.std.proofs.Common.{◌≡◌, ℕ, zero, suc, ◌+◌, ◌-◌, ◌<◌, ◌≤◌, Bool, true, false, cond, ◌&&◌, eqb, ltb, leb, List, [], ◌∷◌, ◌++◌, length, get_or, take, Ok, Err, Decides, sym, refl, ap, ◌∙◌, subst, ⊎_elim, arith, length-append}
+use Rattle.std.proofs.Common.{◌≡◌, ℕ, zero, suc, ◌+◌, ◌-◌, ◌<◌, ◌≤◌, Bool, true, false, cond, ◌&&◌, eqb, ltb, leb, List, [], ◌∷◌, ◌++◌, length, get_or, take, Ok, Err, Result, Decides, sym, refl, ap, ◌∙◌, subst, ⊎_elim, arith, length-append}
 use lib.Seq.{take-length, take-append-add}
 use Rattle.std.specs.List.{flat_map, AllByRecursion, between}
 use Rattle.std.proofs.lemmas.List.{get_or-append-add, get_or_append_left, flat_map_more, take_more}
 use Rattle.std.proofs.ByRecursion.{All-push}
 use Rattle.std.proofs.lemmas.Bool.{and_parts, and_from, both_ways, eqb-true, le-leb, leb-true, ltb-true, lt-ltb, cases_lt, cases_eq}
-use Rattle.std.proofs.lemmas.Bool.Decides.{nat_tests}
+use Rattle.std.proofs.lemmas.Bool.Decides.{nat_tests, Decides-at}
 use Rattle.script.specs.Sequences.{Range, Row, holds, stands, sequence, run_end, Sequence, Sequences}
 use Rattle.script.specs.Utf8Table.{continuing, utf8, WellFormed}
 use Rattle.script.specs.Admission.{most, ill_formed, admits}
-use Rattle.script.specs.declared.refusal.Refusal.TheVariants.{NoCharacter}
-use Rattle.script.specs.Places.{boundary, char_len, Spans}
+use Rattle.script.specs.declared.refusal.NoCharacter.{NoCharacter}
+use Rattle.script.specs.Places.{boundary, char_len, Whole, Spans}
 use Rattle.script.proofs.Runs.{run_stop}
 use Rattle.script.proofs.Joins.{run_le, run_longest, run_past, found_row, found_sequence}
 use Rattle.script.proofs.Tables.{disjoint, disjoint_holds, utf8_fair}
@@ -146,25 +146,25 @@ boundaries bs p a =
           (cases_lt p (length bs))),
     )
 
+pub boundary_decides : (bs : List ℕ) (p : ℕ) (b : Bool) → admits bs ≡ true → b ≡ boundary bs p → Decides b (Whole bs p)
+boundary_decides bs p b a e = Decides-at b (boundary bs p) e (boundaries bs p a)
+
 -- the character at a boundary before the end
 pub character : (bs : List ℕ) (p : ℕ) → admits bs ≡ true → p < length bs → boundary bs p ≡ true → Sequence utf8 (between p (p + sequence utf8 bs p) bs)
 character bs p a l b =
     let w = admitted_well bs a in
     found_sequence utf8 bs p (begins_there bs p w l (boundary_cuts bs p w (omega arith) b))
 
-spans_by : (bs : List ℕ) (p : ℕ) (b : Bool) → admits bs ≡ true → (ltb p (length bs) && boundary bs p) ≡ b → Spans bs p (cond b (Ok (sequence utf8 bs p)) (Err NoCharacter))
+spans_by : (bs : List ℕ) (p : ℕ) (b : Bool) → admits bs ≡ true → (ltb p (length bs) && boundary bs p) ≡ b → Spans bs p (cond b (Ok (sequence utf8 bs p)) (Err (record {})))
 spans_by bs p true a e = let both = and_parts (ltb p (length bs)) (boundary bs p) e in character bs p a (ltb-true p (length bs) both.0) both.1
-spans_by bs p false a e = (
-  refl,
-  λ w.
-      ⊎_elim
-      (λ (inside : p < length bs). absurd (both_ways (ltb p (length bs) && boundary bs p) e (and_from (ltb p (length bs)) (boundary bs p) (lt-ltb p (length bs) inside) ((boundaries bs p a).1 w))))
-      (λ (end : length bs ≤ p). omega (arith, w.0))
-      (cases_lt p (length bs)),
-)
+spans_by bs p false a e = λ w.
+    ⊎_elim
+    (λ (inside : p < length bs). absurd (both_ways (ltb p (length bs) && boundary bs p) e (and_from (ltb p (length bs)) (boundary bs p) (lt-ltb p (length bs) inside) ((boundaries bs p a).1 w))))
+    (λ (end : length bs ≤ p). omega (arith, w.0))
+    (cases_lt p (length bs))
 
-pub spans : (bs : List ℕ) (p : ℕ) → admits bs ≡ true → Spans bs p (char_len bs p)
-spans bs p a = spans_by bs p (ltb p (length bs) && boundary bs p) a refl
+pub spans : (bs : List ℕ) (p : ℕ) (r : Result ℕ NoCharacter) → admits bs ≡ true → r ≡ char_len bs p → Spans bs p r
+spans bs p r a e = subst (Spans bs p) (sym e) (spans_by bs p (ltb p (length bs) && boundary bs p) a refl)
 
 -- before and after an ASCII byte there is a boundary
 pub boundary_start : (bs : List ℕ) → admits bs ≡ true → boundary bs 0 ≡ true

@@ -4,10 +4,10 @@ use lib.Seq.{take-length}
 use Rattle.std.specs.List.{between}
 use Rattle.std.proofs.lemmas.Bool.{leb-true, leb-false, eqb-true, eqb-false, le-leb, lt-leb, eq-eqb, ne_eqb, cond-true, cond-false}
 use Rattle.script.specs.declared.refusal.Refusal.{Refusal}
-use Rattle.script.specs.declared.refusal.Refusal.TheVariants.{TooLong, NotUtf8, NoCharacter}
+use Rattle.script.specs.declared.refusal.Refusal.TheVariants.{TooLong, NotUtf8}
 use Rattle.script.specs.Sequences.{Sequences}
 use Rattle.script.specs.Utf8Table.{utf8, WellFormed, Longest}
-use Rattle.script.specs.Admission.{most, ill_formed, refusal, admits, admitted, Judged}
+use Rattle.script.specs.Admission.{most, ill_formed, refusal, Judged}
 use Rattle.script.proofs.Joins.{run_joins, run_le, run_longest}
 use Rattle.script.proofs.Tables.{utf8_fair}
 
@@ -29,8 +29,8 @@ judged_by bs true false s w =
     let place = longest bs in
     (leb-true (length bs) most s, omega (arith, place.within, eqb-false (ill_formed bs) (length bs) w), place)
 
-pub judged : (bs : List ℕ) → Judged bs (refusal bs)
-judged bs = judged_by bs (leb (length bs) most) (eqb (ill_formed bs) (length bs)) refl refl
+pub judged : (bs : List ℕ) (o : Option Refusal) → o ≡ refusal bs → Judged bs o
+judged bs o e = subst (Judged bs) (sym e) (judged_by bs (leb (length bs) most) (eqb (ill_formed bs) (length bs)) refl refl)
 
 -- and no other answer stands
 pub judged_only : (bs : List ℕ) (o : Option Refusal) → Judged bs o → o ≡ refusal bs
@@ -48,21 +48,3 @@ judged_only bs (Some (NotUtf8 at)) j =
     ap (λ (k : ℕ). Some (NotUtf8 k)) same
     ∙ sym (cond-true (leb (length bs) most) (cond (eqb (ill_formed bs) (length bs)) None (Some (NotUtf8 (ill_formed bs)))) (Some TooLong) (le-leb (length bs) most j.0)
     ∙ cond-false (eqb (ill_formed bs) (length bs)) None (Some (NotUtf8 (ill_formed bs))) (ne_eqb (ill_formed bs) (length bs) (λ e. omega (arith, j.1))))
-judged_only bs (Some NoCharacter) j = absurd j
-
--- what is refused, and what is not, shows in the script that is admitted
-kept_by : (bs : List ℕ) (short whole : Bool) (o : Option Refusal) → o ≡ cond short (cond whole None (Some (NotUtf8 (ill_formed bs)))) (Some TooLong) → cond (short && whole) bs [] ≡ cond (is_some o) [] bs
-kept_by bs false whole o e = sym (ap (λ r. cond (is_some r) [] bs) e)
-kept_by bs true false o e = sym (ap (λ r. cond (is_some r) [] bs) e)
-kept_by bs true true o e = sym (ap (λ r. cond (is_some r) [] bs) e)
-
-pub kept : (bs : List ℕ) (o : Option Refusal) → o ≡ refusal bs → admitted bs ≡ cond (is_some o) [] bs
-kept bs o e = kept_by bs (leb (length bs) most) (eqb (ill_formed bs) (length bs)) o e
-
-passed_by : (bs : List ℕ) (short whole : Bool) (o : Option Refusal) → o ≡ cond short (cond whole None (Some (NotUtf8 (ill_formed bs)))) (Some TooLong) → IfNone o ((short && whole) ≡ true)
-passed_by bs true true o e = subst (λ r. IfNone r (true ≡ true)) (sym e) refl
-passed_by bs true false o e = subst (λ r. IfNone r (false ≡ true)) (sym e) tt
-passed_by bs false whole o e = subst (λ r. IfNone r (false ≡ true)) (sym e) tt
-
-pub passed : (bs : List ℕ) (o : Option Refusal) → o ≡ refusal bs → IfNone o (admits bs ≡ true)
-passed bs o e = passed_by bs (leb (length bs) most) (eqb (ill_formed bs) (length bs)) o e

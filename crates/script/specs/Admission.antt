@@ -1,7 +1,7 @@
 -- Which bytes are a script, and what each refusal says.
-use Rattle.std.specs.Prelude.{ℕ, ◌<◌, ◌≤◌, Bool, cond, ◌&&◌, List, [], length, Some, None, Option, ◌==◌, nat_le}
+use Rattle.std.specs.Prelude.{ℕ, ◌<◌, ◌≤◌, Bool, cond, ◌&&◌, List, [], ◌++◌, length, Some, None, Option, ◌==◌, nat_le, codes, decimal}
 use Rattle.script.specs.declared.refusal.Refusal.{Refusal}
-use Rattle.script.specs.declared.refusal.Refusal.TheVariants.{TooLong, NotUtf8, NoCharacter}
+use Rattle.script.specs.declared.refusal.Refusal.TheVariants.{TooLong, NotUtf8}
 use Rattle.script.specs.Sequences.{run_end}
 use Rattle.script.specs.Utf8Table.{utf8, WellFormed, Longest}
 
@@ -29,17 +29,19 @@ admitted bs = cond (admits bs) bs []
 abbrev pub number : Refusal → ℕ
 number TooLong = 1
 number (NotUtf8 at) = 2
-number NoCharacter = 21
 
 -- the value that goes with the number, if one does: the place of the first ill-formed byte
 abbrev pub value : Refusal → Option ℕ
 value TooLong = None
 value (NotUtf8 at) = Some at
-value NoCharacter = None
+
+-- what `{}` prints of a refusal
+abbrev pub refusal_text : Refusal → List ℕ
+refusal_text TooLong = codes "longer than 4294967295 bytes"
+refusal_text (NotUtf8 at) = codes "not UTF-8, first at byte " ++ decimal at
 
 -- an answer, in the words of the Unicode Standard
 abbrev pub Judged : List ℕ → Option Refusal → Type 0
 Judged bs None = (length bs ≤ most) × WellFormed bs
 Judged bs (Some TooLong) = most < length bs
 Judged bs (Some (NotUtf8 at)) = (length bs ≤ most) × (at < length bs) × Longest bs at
-Judged bs (Some NoCharacter) = ⊥
