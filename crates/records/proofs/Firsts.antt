@@ -1,8 +1,6 @@
 -- What the search finds among ascending numbers: the first that is sought. Assumes nothing.
-use Rattle.std.proofs.Common.{◌≡◌, ℕ, zero, suc, ◌<◌, ◌≤◌, false, ◌&&◌, eqb, ltb, List, [], ◌∷◌, map, length, get_or, Some, None, sym, refl, ap, ◌∙◌, ⊎_elim, arith}
+use Rattle.std.proofs.Common.{◌≡◌, ℕ, zero, suc, ◌<◌, ◌≤◌, false, ◌&&◌, eqb, ltb, List, [], ◌∷◌, map, length, get_or, Some, None, sym, refl, ◌∙◌, ⊎_elim, arith}
 use lib.ListN.{length-map}
-use Rattle.std.proofs.lemmas.List.{get_or-map}
-use Rattle.std.proofs.lemmas.Bool.Decides.{nat_tests}
 use Rattle.std.proofs.lemmas.Bool.{ltb-true, ltb-false, lt-ltb, eqb-true, eqb-false, eq-eqb, ne_eqb, and_parts, and_cases, cond_both, cases_lt}
 use Rattle.records.specs.Cuts.{bisect, Partitioned, Cuts}
 use Rattle.records.specs.Keys.{Ascending, first, standing, searched}
@@ -58,21 +56,3 @@ module _ {R : Type 0} (key : R → ℕ) (n : ℕ) (rs : List R) (ascending : Asc
 
   pub searched_first : searched key n rs ≡ first n (map key rs)
   searched_first = found_by (bisect (λ r. ltb (key r) n) rs) (cuts (λ r. ltb (key r) n) rs parted)
-
--- whether the number stands at a place, from the record that is read there
-module _ {R : Type 0} (key : R → ℕ) (n : ℕ) (rs : List R) (at : ℕ) where
-  pub off_end : length rs ≤ at → None ≡ standing n (map key rs) at
-  off_end l = let long = length-map rs key in grind (arith, nat_tests)
-
-  pub there : (x : R) (k : ℕ) → at < length rs → x ≡ get_or rs at x → k ≡ key x → k ≡ n → Some at ≡ standing n (map key rs) at
-  there x k l is e same =
-      let long = length-map rs key in
-      let here : get_or (map key rs) at 0 ≡ n = get_or-map key rs at x 0 l ∙ sym (ap key is) ∙ sym e ∙ same in
-      grind (arith, nat_tests)
-
-  pub another : (x : R) (k : ℕ) → at < length rs → x ≡ get_or rs at x → k ≡ key x → (k ≡ n → ⊥) → None ≡ standing n (map key rs) at
-  another x k l is e other =
-      let long = length-map rs key in
-      let here : get_or (map key rs) at 0 ≡ k = get_or-map key rs at x 0 l ∙ sym (ap key is) ∙ sym e in
-      let differ : get_or (map key rs) at 0 ≡ n → ⊥ = λ h. other (sym here ∙ h) in
-      grind (arith, nat_tests)
