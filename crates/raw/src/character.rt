@@ -17,9 +17,7 @@ impl RawToken {
     pub fn character(script: &Script<'_>, place: usize, kind: RawKind) -> Result<RawToken, Refusal>
         ensures { result ≡ token_answer script.now.bytes.now (character script.now.bytes.now kind) place }
     {
-        let Ok(len) = script.char_len(place) else {
-            return Err(Refusal::NoToken);
-        };
+        let len = script.char_len(place)?;
         Ok(RawToken {
             kind,
             len: len as u32,

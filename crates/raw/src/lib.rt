@@ -7,7 +7,7 @@ ghost use Rattle.raw.specs.Laws.{Laws};
 ghost use Rattle.raw.specs.declared.kinds.RawToken.{RawToken};
 ghost use Rattle.raw.specs.declared.kinds.EscapeError.{EscapeError};
 
-use script::Script;
+use script::{NoCharacter, Script};
 use std::error::Error;
 use std::fmt;
 
@@ -51,6 +51,17 @@ impl fmt::Display for Refusal {
 }
 
 impl Error for Refusal {}
+
+// For `?`.
+impl From<NoCharacter> for Refusal {
+    ghost use Rattle.raw.specs.declared.Refusal.TheVariants.{NoToken};
+
+    ghost from_gives = { λ _ why. why ≡ NoToken };
+
+    fn from(_none: NoCharacter) -> Refusal {
+        Refusal::NoToken
+    }
+}
 
 // A raw lexer and the unescaping, over one script.
 pub trait RawSource {
