@@ -1,4 +1,5 @@
 pub mod Steps
+pub mod Scan
 pub mod Places
 pub mod Choice
 pub mod Across

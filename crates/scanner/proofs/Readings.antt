@@ -10,7 +10,7 @@ use Rattle.std.proofs.lemmas.Bool.{false≢true, cases_Bool, cond-true, cond-fal
 use Rattle.scanner.specs.Grammar.{slash, star, Form, line_comment, inner_line_doc, outer_line_doc, block_comment, inner_block_doc, outer_block_doc, is_block, begins, Comment}
 use Rattle.scanner.specs.Comments.{in_line, closing, block_style, line_token, block_by, block_token, comment}
 use Rattle.scanner.specs.Reading.{kind_of, token_of, Stands, Follows, Reading, stands, unclosed, none}
-use Rattle.scanner.proofs.Places.{begun}
+use Rattle.scanner.proofs.Scan.{begun}
 use Rattle.scanner.proofs.Across.{across}
 use Rattle.scanner.proofs.Formed.{formed, block_kind}
 use Rattle.scanner.proofs.Pieces.{closed}

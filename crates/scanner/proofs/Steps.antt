@@ -13,6 +13,10 @@ pub plus_some : (n m : ℕ) → plus n (Some m) ≡ Some (n + m)
 plus_some zero m = ap Some (let e : m ≡ 0 + m = omega arith in e)
 plus_some (suc n) m = ap further (plus_some n m) ∙ ap Some (let e : suc (n + m) ≡ suc n + m = omega arith in e)
 
+pub plus_none : (n : ℕ) → plus n None ≡ None
+plus_none zero = refl
+plus_none (suc n) = ap further (plus_none n)
+
 pub plus_plus : (n m : ℕ) (o : Option ℕ) → plus n (plus m o) ≡ plus (n + m) o
 plus_plus zero m o = ap (λ k. plus k o) (let e : m ≡ 0 + m = omega arith in e)
 plus_plus (suc n) m o = ap further (plus_plus n m o) ∙ ap (λ k. plus k o) (let e : suc (n + m) ≡ suc n + m = omega arith in e)

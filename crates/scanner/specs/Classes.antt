@@ -4,9 +4,6 @@ use Rattle.std.specs.Int.{is_in_range}
 use Rattle.std.specs.List.{prefix_len}
 use Rattle.raw.specs.declared.kinds.RawKind.{RawKind}
 use Rattle.raw.specs.declared.kinds.RawKind.TheVariants.{Semi, Comma, Dot, OpenParen, CloseParen, OpenBrace, CloseBrace, OpenBracket, CloseBracket, At, Pound, Tilde, Question, Colon, Dollar, Eq, Bang, Lt, Gt, Minus, And, Or, Plus, Star, Slash, Caret, Percent, Unknown}
-use Rattle.scanner.specs.declared.classes.Class.{Class}
-use Rattle.scanner.specs.declared.classes.Class.TheVariants.{InLine, Letter, Digit, Word}
-use Rattle.scanner.specs.Comments.{in_line}
 
 -- an ASCII letter or `_`
 abbrev pub letter : ℕ → Bool
@@ -15,16 +12,13 @@ letter b = (is_in_range 97 122 b || is_in_range 65 90 b) || b == 95
 abbrev pub digit : ℕ → Bool
 digit b = is_in_range 48 57 b
 
--- the byte is of the class
-abbrev pub passes : Class → ℕ → Bool
-passes InLine b = in_line b
-passes Letter b = letter b
-passes Digit b = digit b
-passes Word b = letter b || digit b
+-- a byte of a word
+abbrev pub word : ℕ → Bool
+word b = letter b || digit b
 
--- where the bytes of the class that stand from p on end
-abbrev pub run_to : Class → List ℕ → ℕ → ℕ
-run_to c bs p = p + prefix_len (passes c) (drop p bs)
+-- where the bytes that stand from p on and pass the test end
+abbrev pub run_to : (ℕ → Bool) → List ℕ → ℕ → ℕ
+run_to test bs p = p + prefix_len test (drop p bs)
 
 -- each mark by its code, with its kind
 abbrev pub marks : List (ℕ × RawKind)

@@ -12,11 +12,6 @@ abbrev pub further : Option ℕ → Option ℕ
 further None = None
 further (Some n) = Some (suc n)
 
--- a length from p on, as the place where it ends
-abbrev pub placed : ℕ → Option ℕ → Option ℕ
-placed p None = None
-placed p (Some n) = Some (p + n)
-
 -- the length up to the `*/` that closes the outermost of d + 1 open block comments, with it; none where one stays open
 abbrev pub closing : ℕ → List ℕ → Option ℕ
 closing d [] = None

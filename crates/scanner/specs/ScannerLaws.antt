@@ -21,11 +21,9 @@ use Rattle.raw.specs.declared.kinds.RawToken.{RawToken}
 use Rattle.raw.proofs.Characters.{some_bytes, ends_within, ends_at_boundary}
 use Rattle.raw.proofs.Ends.{Ends, ordinary_keeps, run_le, ascii_run, stopped_run, white_run}
 use Rattle.scanner.specs.declared.Scanner.{Scanner}
-use Rattle.scanner.specs.declared.classes.Class.{Class}
-use Rattle.scanner.specs.declared.classes.Class.TheVariants.{InLine, Letter, Digit, Word}
 use Rattle.scanner.specs.Grammar.{slash, star, lf, begins}
 use Rattle.scanner.specs.Comments.{further, closing, in_line, line_token, block_by, block_token, comment}
-use Rattle.scanner.specs.Classes.{letter, digit, passes, run_to, marks, kind_in, mark_kind}
+use Rattle.scanner.specs.Classes.{letter, digit, word, run_to, marks, kind_in, mark_kind}
 use Rattle.scanner.specs.Tokens.{span_of, point, number_to, character_at, word_at, or, token_at}
 
 -- the bytes of words and numbers are ASCII
@@ -42,7 +40,7 @@ low_letter x e =
 low_digit : (x : ℕ) → digit x ≡ true → x < 128
 low_digit x e = low_within 48 57 x (omega arith) e
 
-low_word : (x : ℕ) → passes Word x ≡ true → x < 128
+low_word : (x : ℕ) → word x ≡ true → x < 128
 low_word x e = ⊎_elim (low_letter x) (low_digit x) (or_cases (letter x) (digit x) e)
 
 -- what ends a line is ASCII
@@ -55,8 +53,8 @@ first_byte bs p x e =
     ap (λ k. slice_index bs k) here ∙ (sym (get_or-drop p bs 0 0) ∙ eqb-true (slice_index (drop p bs) 0) x e)
 
 -- a run whose first byte passes has a byte or more
-run_some : (c : Class) (bs : List ℕ) (p : ℕ) → p < length bs → passes c (slice_index bs p) ≡ true → p < run_to c bs p
-run_some c bs p l e = omega (arith, prefix_len-drop_yes (passes c) bs p 0 l e)
+run_some : (c : ℕ → Bool) (bs : List ℕ) (p : ℕ) → p < length bs → c (slice_index bs p) ≡ true → p < run_to c bs p
+run_some c bs p l e = omega (arith, prefix_len-drop_yes c bs p 0 l e)
 
 -- a comment is closed behind a `/`
 pub record Last (n : ℕ) (xs : List ℕ) : Type 0 where
@@ -127,26 +125,26 @@ module _ (bs : List ℕ) (p : ℕ) (a : admits bs ≡ true) (l : p < length bs) 
   white_keeps : p < run_end white bs p → Keeps (span_of Whitespace p (run_end white bs p))
   white_keeps some = span_keeps Whitespace (run_end white bs p) refl (record { some = some; within = white_le white bs p (omega arith); at = white_run bs p a b })
 
-  word_keeps : passes Letter (slice_index bs p) ≡ true → Keeps (span_of Ident p (run_to Word bs p))
+  word_keeps : letter (slice_index bs p) ≡ true → Keeps (span_of Ident p (run_to word bs p))
   word_keeps e =
-      let first : passes Word (slice_index bs p) ≡ true = or_left (letter (slice_index bs p)) (digit (slice_index bs p)) e in
-      span_keeps Ident (run_to Word bs p) refl
-      (record { some = run_some Word bs p l first; within = run_le (passes Word) bs p (omega arith); at = ascii_run (passes Word) bs p a low_word (omega arith) b })
+      let first : word (slice_index bs p) ≡ true = or_left (letter (slice_index bs p)) (digit (slice_index bs p)) e in
+      span_keeps Ident (run_to word bs p) refl
+      (record { some = run_some word bs p l first; within = run_le word bs p (omega arith); at = ascii_run word bs p a low_word (omega arith) b })
 
   -- digits, and a point with the digits behind it
-  digits_end : passes Digit (slice_index bs p) ≡ true → Ends bs p (run_to Digit bs p)
-  digits_end e = record { some = run_some Digit bs p l e; within = run_le (passes Digit) bs p (omega arith); at = ascii_run (passes Digit) bs p a low_digit (omega arith) b }
+  digits_end : digit (slice_index bs p) ≡ true → Ends bs p (run_to digit bs p)
+  digits_end e = record { some = run_some digit bs p l e; within = run_le (digit) bs p (omega arith); at = ascii_run (digit) bs p a low_digit (omega arith) b }
 
-  point_end : (q : ℕ) → Ends bs p q → slice_index bs q ≡ 46 → Ends bs p (run_to Digit bs (q + 1))
+  point_end : (q : ℕ) → Ends bs p q → slice_index bs q ≡ 46 → Ends bs p (run_to digit bs (q + 1))
   point_end q ends e =
       let inside : q < length bs = ⊎_elim (λ (h : q < length bs). h) (λ (h : length bs ≤ q). absurd (omega (arith, get_or_past bs q 0 h))) (cases_lt q (length bs)) in
       let there = ascii_after bs q a inside (omega arith) in
-      record { some = omega (arith, ends.some); within = run_le (passes Digit) bs (q + 1) (omega arith); at = ascii_run (passes Digit) bs (q + 1) a low_digit (omega arith) there }
+      record { some = omega (arith, ends.some); within = run_le (digit) bs (q + 1) (omega arith); at = ascii_run (digit) bs (q + 1) a low_digit (omega arith) there }
 
   number_keeps : (q : ℕ) → Ends bs p q → Keeps (number_to bs p q)
   number_keeps q ends =
-      cond_both (point (drop q bs)) (span_of (Literal (Float false)) p (run_to Digit bs (q + 1))) (span_of (Literal (Int false)) p q) Keeps
-      (λ e. span_keeps (Literal (Float false)) (run_to Digit bs (q + 1)) refl (point_end q ends (first_byte bs q 46 (and_parts (slice_index (drop q bs) 0 == 46) _ e).0)))
+      cond_both (point (drop q bs)) (span_of (Literal (Float false)) p (run_to digit bs (q + 1))) (span_of (Literal (Int false)) p q) Keeps
+      (λ e. span_keeps (Literal (Float false)) (run_to digit bs (q + 1)) refl (point_end q ends (first_byte bs q 46 (and_parts (slice_index (drop q bs) 0 == 46) _ e).0)))
       (λ _. span_keeps (Literal (Int false)) q refl ends)
 
   character_keeps : Keeps (character_at bs p)
@@ -156,15 +154,15 @@ module _ (bs : List ℕ) (p : ℕ) (a : admits bs ≡ true) (l : p < length bs) 
 
   other_keeps : Keeps (word_at bs p)
   other_keeps =
-      cond_both (passes Letter (slice_index bs p)) (span_of Ident p (run_to Word bs p)) (cond (passes Digit (slice_index bs p)) (number_to bs p (run_to Digit bs p)) (character_at bs p)) Keeps word_keeps
-      (λ _. cond_both (passes Digit (slice_index bs p)) (number_to bs p (run_to Digit bs p)) (character_at bs p) Keeps (λ e. number_keeps (run_to Digit bs p) (digits_end e)) (λ _. character_keeps))
+      cond_both (letter (slice_index bs p)) (span_of Ident p (run_to word bs p)) (cond (digit (slice_index bs p)) (number_to bs p (run_to digit bs p)) (character_at bs p)) Keeps word_keeps
+      (λ _. cond_both (digit (slice_index bs p)) (number_to bs p (run_to digit bs p)) (character_at bs p) Keeps (λ e. number_keeps (run_to digit bs p) (digits_end e)) (λ _. character_keeps))
 
   -- comments
   line_keeps : begins slash slash (drop p bs) ≡ true → Keeps (line_token (drop p bs))
   line_keeps e =
       let first = first_byte bs p slash (and_parts (slice_index (drop p bs) 0 == slash) _ e).0 in
-      ordinary_keeps bs p (run_to InLine bs p) (line_token (drop p bs)) refl
-      (record { some = run_some InLine bs p l (ap in_line first); within = run_le in_line bs p (omega arith); at = stopped_run in_line bs p low_line (omega arith) }) refl
+      ordinary_keeps bs p (run_to in_line bs p) (line_token (drop p bs)) refl
+      (record { some = run_some in_line bs p l (ap in_line first); within = run_le in_line bs p (omega arith); at = stopped_run in_line bs p low_line (omega arith) }) refl
 
   block_by_lem : (o : Option ℕ) → closing 0 (drop 2 (drop p bs)) ≡ o → Keeps (block_by (drop p bs) o)
   block_by_lem None is =

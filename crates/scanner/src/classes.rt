@@ -1,47 +1,34 @@
-// Classes of bytes and their runs.
-ghost use Rattle.std.specs.Prelude.{◌≡◌, drop, slice_index};
-ghost use Rattle.scanner.specs.Classes.{passes, run_to};
+// Classes of bytes.
+ghost use Rattle.std.specs.Prelude.{◌≡◌, ℕ, ◌<◌, ◌≤◌, Bool, length};
+ghost use Rattle.std.specs.List.{prefix_len};
+ghost use Rattle.scanner.specs.Classes.{letter, digit, word};
 
-#[derive(Clone, Copy)]
-pub(crate) enum Class {
-    // Any byte but LF.
-    InLine,
-    // An ASCII letter or `_`.
-    Letter,
-    Digit,
-    // A letter, `_` or a digit.
-    Word,
+// An ASCII letter or `_`.
+pub(crate) fn is_letter(byte: u8) -> bool
+    ensures { result ≡ letter byte }
+{
+    matches!(byte as char, 'a'..='z' | 'A'..='Z' | '_')
 }
 
-pub(crate) fn is_of(class: Class, byte: u8) -> bool
-    ensures { result ≡ passes class byte }
+pub(crate) fn is_digit(byte: u8) -> bool
+    ensures { result ≡ digit byte }
 {
-    match class {
-        Class::InLine => byte != b'\n',
-        Class::Letter => matches!(byte as char, 'a'..='z' | 'A'..='Z' | '_'),
-        Class::Digit => matches!(byte as char, '0'..='9'),
-        Class::Word => matches!(byte as char, 'a'..='z' | 'A'..='Z' | '_' | '0'..='9'),
-    }
+    matches!(byte as char, '0'..='9')
 }
 
-// Where the bytes of the class that stand from `from` on end.
-pub(crate) fn run_end(bytes: &[u8], from: usize, class: Class) -> usize
-    ensures { result ≡ run_to class bytes.now from }
+// A letter, `_` or a digit.
+pub(crate) fn is_word(byte: u8) -> bool
+    ensures { result ≡ word byte }
 {
-    let mut end = from;
-    while end < bytes.len() && is_of(class, bytes[end]) {
-        end += 1;
-    }
-    end
+    is_letter(byte) || is_digit(byte)
 }
 
-// The byte so many places after `place`; 0 past the end.
-pub(crate) fn byte_after(bytes: &[u8], place: usize, count: usize) -> u8
-    ensures { result ≡ slice_index (drop place bytes.now) count }
+
+// How many bytes from the front on pass.
+pub(crate) fn run_len<P: Fn(u8) -> bool>(text: &[u8], passes: P) -> usize
+    requires { P.IsAlwaysCallable passes }
+    ensures within { result ≤ length text.now }
+    ensures value { (test : ℕ → Bool) → ((x : ℕ) (b : Bool) → P.post passes x b → b ≡ test x) → result ≡ prefix_len test text.now }
 {
-    if place < bytes.len() && count < bytes.len() - place {
-        bytes[place + count]
-    } else {
-        0
-    }
+    text.iter().take_while(|b| passes(**b)).count()
 }

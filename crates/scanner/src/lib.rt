@@ -1,8 +1,9 @@
 //! A small lexer of our own: a raw source that reads its tokens off the script.
 #![tactic(auto)]
 
-ghost use Rattle.std.specs.Prelude.{◌≡◌, Some, None, MatchResult};
-ghost use Rattle.script.specs.Admission.{refusal, admitted};
+ghost use Rattle.std.specs.Prelude.{◌≡◌, IfOk};
+ghost use Rattle.std.specs.Result.{result_err};
+ghost use Rattle.script.specs.Admission.{refusal};
 
 use script::{Refusal, Script};
 
@@ -10,21 +11,15 @@ mod classes;
 mod comments;
 mod marks;
 mod source;
+mod start;
 mod tokens;
 
 pub use comments::comment_at;
 
 // The lexer over one script.
-#[derive(Clone, Copy)]
+#[derive(Clone, Copy, Debug, PartialEq, Eq)]
 pub struct Scanner<'a> {
     script: Script<'a>,
-}
-
-// The scanner of the bytes, or one of the empty script and why the bytes are none.
-#[derive(Clone, Copy)]
-pub struct Scanning<'a> {
-    pub scanner: Scanner<'a>,
-    pub refused: Option<Refusal>,
 }
 
 impl<'a> Scanner<'a> {
@@ -34,26 +29,11 @@ impl<'a> Scanner<'a> {
         Scanner { script }
     }
 
-    pub fn new(bytes: &'a [u8]) -> Scanning<'a>
-        ensures refused { result.refused ≡ refusal bytes.now }
-        ensures script { result.scanner.script.bytes.now ≡ admitted bytes.now }
+    // The scanner of the bytes, where they are a script.
+    pub fn new(bytes: &'a [u8]) -> Result<Scanner<'a>, Refusal>
+        ensures refused { result_err result ≡ refusal bytes.now }
+        ensures script { IfOk result (λ scanner. scanner.script.bytes.now ≡ bytes.now) }
     {
-        let admission = Script::admit(bytes);
-        Scanning {
-            scanner: Scanner::of_script(admission.script),
-            refused: admission.refused,
-        }
-    }
-}
-
-impl Scanning<'_> {
-    // For `?`.
-    pub fn checked(&self) -> Result<(), Refusal>
-        ensures { MatchResult result (λ _. self.now.refused ≡ None) (λ why. self.now.refused ≡ Some why) }
-    {
-        match self.refused {
-            None => Ok(()),
-            Some(why) => Err(why),
-        }
+        Ok(Scanner::of_script(Script::admit(bytes)?))
     }
 }

@@ -4,7 +4,7 @@ ghost use Rattle.scanner.specs.Tokens.{token_at};
 ghost use Rattle.scanner.specs.ScannerLaws.{scanner_laws};
 
 use crate::Scanner;
-use crate::tokens::{token, token_begins};
+use crate::start::Start;
 use raw::{EscapeError, RawSource, RawToken, Refusal};
 use script::Script;
 
@@ -24,17 +24,12 @@ impl<'a> RawSource for Scanner<'a> {
     }
 
     fn token_at(&self, place: usize) -> Result<RawToken, Refusal> {
-        if !token_begins(&self.script, place) {
-            return Err(Refusal::NoToken);
-        }
-        Ok(token(&self.script, place))
+        Ok(Start::at(&self.script, place)?.token())
     }
 
     // No token has a fault.
     fn fault_at(&self, place: usize, _number: usize) -> Result<EscapeError, Refusal> {
-        if !token_begins(&self.script, place) {
-            return Err(Refusal::NoToken);
-        }
+        Start::at(&self.script, place)?;
         Err(Refusal::NoFault)
     }
 
