@@ -1,5 +1,5 @@
 -- The comment that a text begins with, by one pass over the text.
-use Rattle.std.specs.Prelude.{ℕ, zero, suc, ◌+◌, Bool, true, false, cond, not, ◌&&◌, ◌||◌, List, [], ◌∷◌, length, drop, Some, None, Option, ◌==◌, slice_index}
+use Rattle.std.specs.Prelude.{ℕ, zero, suc, Bool, true, false, cond, not, ◌&&◌, ◌||◌, List, [], ◌∷◌, length, drop, Some, None, Option, ◌==◌, slice_index}
 use Rattle.std.specs.List.{prefix_len}
 use Rattle.raw.specs.declared.kinds.DocStyle.{DocStyle}
 use Rattle.raw.specs.declared.kinds.DocStyle.TheVariants.{Inner, Outer}

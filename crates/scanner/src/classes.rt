@@ -23,7 +23,6 @@ pub(crate) fn is_word(byte: u8) -> bool
     is_letter(byte) || is_digit(byte)
 }
 
-
 // How many bytes from the front on pass.
 pub(crate) fn run_len<P: Fn(u8) -> bool>(text: &[u8], passes: P) -> usize
     requires { P.IsAlwaysCallable passes }

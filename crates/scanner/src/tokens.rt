@@ -33,7 +33,10 @@ impl Start<'_> {
                 let kind = LiteralKind::Float {
                     empty_exponent: false,
                 };
-                self.span(RawKind::Literal { kind }, len + 1 + run_len(digits, is_digit))
+                self.span(
+                    RawKind::Literal { kind },
+                    len + 1 + run_len(digits, is_digit),
+                )
             }
             None => {
                 let kind = LiteralKind::Int { empty_int: false };

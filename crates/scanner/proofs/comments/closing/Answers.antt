@@ -1,6 +1,5 @@
-use Rattle.std.proofs.Common.{rules, arith, ◌≡◌, true, false}
+use Rattle.std.proofs.Common.{rules}
 use Rattle.std.proofs.lemmas.List.{take_rest}
-use Rattle.scanner.specs.Grammar.{slash, star, begins}
 use Rattle.scanner.proofs.Scan.{scan_never, scan_last, scan_close, scan_open, scan_pass}
 use Rattle.scanner.proofs.comments.closing.Goals as goal
 

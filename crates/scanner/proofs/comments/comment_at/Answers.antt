@@ -1,4 +1,4 @@
-use Rattle.std.proofs.Common.{rules, ◌≡◌, Some, None, false, drop, sym, ◌∙◌, subst}
+use Rattle.std.proofs.Common.{rules, ◌≡◌, false, drop, sym, ◌∙◌, subst}
 use Rattle.raw.specs.Answers.{begins as token_begins}
 use Rattle.scanner.specs.Comments.{comment}
 use Rattle.scanner.specs.Reading.{Reading}

@@ -1,5 +1,4 @@
-use Rattle.std.proofs.Common.{rules, arith, ◌≡◌}
-use Rattle.std.proofs.lemmas.Grind.{common_steps}
+use Rattle.std.proofs.Common.{rules, ◌≡◌}
 use Rattle.std.specs.List.{prefix_len}
 use Rattle.scanner.specs.Comments.{in_line}
 use Rattle.scanner.proofs.start.Start.line_comment.Goals as goal
