@@ -1,5 +1,6 @@
 pub mod Names
 pub mod Kinds
+pub mod Message
 pub mod Messages
 pub mod Codes
 pub mod Cuts

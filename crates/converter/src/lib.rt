@@ -10,11 +10,13 @@ mod head;
 mod hint;
 mod kind;
 mod lexing;
+mod message;
 mod messages;
 mod progress;
 mod refusal;
 mod single;
 
 pub use lexing::{Counts, lex};
+pub use message::{Message, UnknownMessage};
 pub use refusal::Refusal;
 pub use single::single_token;
