@@ -17,7 +17,7 @@ use Rattle.converter.specs.declared.complaint.Complaint.TheVariants.{Silent, Say
 use Rattle.converter.specs.Messages.{message}
 use Rattle.converter.specs.Codes.{messages, first_message, settled, said, complaint_of, codes_of}
 use Rattle.converter.specs.Cuts.{token, cut_as, cut}
-use Rattle.converter.proofs.Faults.{message_few}
+use Rattle.converter.proofs.Asking.{message_few}
 
 -- a token that may stand at the place, with as many faults at most as it has bytes, or silent
 pub record Stands (bs : List ℕ) (p : ℕ) (t : RawToken) (faults : ℕ) : Type 0 where

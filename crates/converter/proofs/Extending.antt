@@ -97,6 +97,17 @@ written_out bs xs ks ss es es' tokens faults shebang edition sf kind written t f
     (put_there ∙ ap (λ x. put e (map (lex_error n) (said (faults p) x)) es) codes)
     ∙ ap (λ (y : RawToken). add (kind_of edition (between p (p + y.len) bs) y.kind) (p + y.len) (codes_of (hint bs (take n ks) (take n ss) 5 (length (take n ks)) p) (between p (p + y.len) bs) y.kind (faults p)) (held ks ss es sf)) is
 
+-- what is said of a token fits its bytes
+pub said_few : (bs xs ks ss : List ℕ) (faults : List EscapeError) (sf : Progress) (t : RawToken) (first last : Complaint)
+    → Stands bs sf.place t (length faults)
+    → first ≡ complaint_of t.kind
+    → last ≡ settled (hint xs ks ss 5 sf.tokens sf.place) (between sf.place (sf.place + t.len) xs) first
+    → length (said faults last) ≤ t.len
+said_few bs xs ks ss faults sf t first last s c₁ c₂ =
+    let h = hint xs ks ss 5 sf.tokens sf.place in
+    let text = between sf.place (sf.place + t.len) xs in
+    omega (arith, codes_few bs sf.place t h text faults s, ap (λ c. length (said faults c)) (c₂ ∙ ap (settled h text) c₁))
+
 -- how far the columns have come then
 pub reached : (bs xs ks ss : List ℕ) (faults : List EscapeError) (sf : Progress) (written : ℕ) (t : RawToken) (first last : Complaint)
     → Reached bs sf → Stands bs sf.place t (length faults)
@@ -105,13 +116,11 @@ pub reached : (bs xs ks ss : List ℕ) (faults : List EscapeError) (sf : Progres
     → written ≡ sf.errors + length (said faults last)
     → Reached bs (record { tokens = sf.tokens + 1; errors = written; place = sf.place + t.len })
 reached bs xs ks ss faults sf written t first last h s c₁ c₂ to =
-    let few = codes_few bs sf.place t (hint xs ks ss 5 sf.tokens sf.place) (between sf.place (sf.place + t.len) xs) faults s in
-    let codes : last ≡ settled (hint xs ks ss 5 sf.tokens sf.place) (between sf.place (sf.place + t.len) xs) (complaint_of t.kind) = c₂ ∙ ap (settled (hint xs ks ss 5 sf.tokens sf.place) (between sf.place (sf.place + t.len) xs)) c₁ in
     record {
       boundary_there = s.ends;
       within = s.within;
       tokens_few = omega (arith, h.tokens_few, s.some);
-      errors_few = omega (arith, h.errors_few, few, ap (λ x. length (said faults x)) codes);
+      errors_few = omega (arith, h.errors_few, said_few bs xs ks ss faults sf t first last s c₁ c₂, to);
     }
 
 pub begins_there : (bs : List ℕ) (p : ℕ) → p < length bs → boundary bs p ≡ true → begins bs p ≡ true

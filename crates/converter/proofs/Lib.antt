@@ -1,6 +1,6 @@
 pub mod Hinting
 pub mod Puts
-pub mod Faults
+pub mod Asking
 pub mod Cutting
 pub mod Extending
 pub mod Running
@@ -14,3 +14,5 @@ pub mod Fronts
 pub mod Unique
 pub mod Proper
 pub mod Readable
+pub mod Telling
+pub mod Writing

@@ -1,39 +1,34 @@
 -- The last code of a token, and scripts that are one token.
-use Rattle.std.proofs.Common.{◌≡◌, ℕ, ◌+◌, ◌<◌, Bool, true, false, cond, ◌&&◌, eqb, ltb, List, [], ◌∷◌, ◌++◌, map, length, drop, Some, None, Ok, Err, Option, sym, refl, ap, ◌∙◌, arith, ltb-true, lt-ltb, eq-eqb, eqb-true}
+use Rattle.std.proofs.Common.{◌≡◌, ℕ, ◌+◌, ◌<◌, Bool, true, false, cond, ◌&&◌, eqb, ltb, List, [], ◌∷◌, map, length, Some, None, Option, sym, refl, ap, ◌∙◌, arith, ltb-true, lt-ltb, eq-eqb, eqb-true}
 use Rattle.std.proofs.lemmas.Bool.{and_parts, both_ways}
 use Rattle.script.specs.Admission.{admits}
 use Rattle.script.proofs.Bounds.{boundary_start}
-use Rattle.raw.specs.Answers.{begins, fault}
-use Rattle.raw.specs.declared.Refusal.{Refusal}
-use Rattle.raw.specs.declared.kinds.EscapeError.{EscapeError}
+use Rattle.raw.specs.Answers.{begins}
 use Rattle.lexed_str.specs.declared.error.LexError.{LexError}
-use Rattle.converter.specs.declared.messages.Mode.{Mode}
-use Rattle.converter.specs.Messages.{message}
+use Rattle.std.specs.Iterator.{YieldsFirstBy, Yields, Drains}
+use Rattle.std.specs.List.{last_or}
+use Rattle.std.specs.Option.{option_map}
+use Rattle.converter.specs.declared.message.Message.{Message}
+use Rattle.converter.specs.Message.{message_code}
 use Rattle.std.specs.List.{between}
 use Rattle.raw.specs.declared.kinds.RawToken.{RawToken}
 use Rattle.converter.specs.declared.complaint.Complaint.{Complaint}
-use Rattle.converter.specs.Codes.{listed, messages, complaint_of, settled, said}
+use Rattle.converter.specs.Codes.{complaint_of, settled, said}
 use Rattle.converter.specs.Hints.{hint}
 use Rattle.converter.specs.Kinds.{kind_of}
 use Rattle.converter.specs.Lexing.{lex_error, cut_at, kind_at, codes_at}
 use Rattle.converter.specs.Meaning.{Meaning}
-use Rattle.converter.specs.Single.{last_from, last_of, later, whole, single, Alone, Single}
+use Rattle.converter.specs.Single.{last_from, last_of, whole, single, Alone, Single}
 use Rattle.converter.proofs.Extending.{begins_there}
-use Rattle.converter.proofs.Faults.{one_more, no_more}
 
-later_listed : (code before : Option ℕ) (rest : List ℕ) → last_from before (listed code ++ rest) ≡ last_from (later code before) rest
-later_listed None before rest = refl
-later_listed (Some code) before rest = refl
+-- the last message that comes, where those with these codes are to come
+last_from_lem : (before : Option Message) (codes : List ℕ) (ms : List Message) (t : List ℕ) → Yields (YieldsFirstBy message_code (λ cs. cs)) codes ms t → t ≡ []
+    → option_map message_code (last_or before ms) ≡ last_from (option_map message_code before) codes
+last_from_lem before codes [] t y none = sym (ap (last_from (option_map message_code before)) (y ∙ none))
+last_from_lem before codes (m ∷ ms) t (codes', first, y) none = last_from_lem (Some m) codes' ms t y none ∙ sym (ap (last_from (option_map message_code before)) first)
 
-pub last_turn : (m : Mode) (es : List EscapeError) (n : ℕ) (e : EscapeError) (code last all : Option ℕ)
-    → fault es n ≡ Ok e → listed code ≡ message m e → last_from last (messages m (drop n es)) ≡ all
-    → last_from (later code last) (messages m (drop (n + 1) es)) ≡ all
-last_turn m es n e code last all ok is h =
-    let rest = messages m (drop (n + 1) es) in
-    sym (later_listed code last rest) ∙ ap (λ x. last_from last (x ++ rest)) is ∙ ap (λ x. last_from last (messages m x)) (sym (one_more es n e ok)) ∙ h
-
-pub last_end : (m : Mode) (es : List EscapeError) (n : ℕ) (why : Refusal) (last all : Option ℕ) → fault es n ≡ Err why → last_from last (messages m (drop n es)) ≡ all → last ≡ all
-last_end m es n why last all none h = ap (λ x. last_from last (messages m x)) (sym (no_more es n why none)) ∙ h
+pub last_told : (codes : List ℕ) (r : Option Message) → ((ms : List Message) × Drains (YieldsFirstBy message_code (λ cs. cs)) codes ms × (r ≡ last_or None ms)) → option_map message_code r ≡ last_of codes
+last_told codes r (ms, (u, (t, y, step)), is) = ap (option_map message_code) is ∙ last_from_lem None codes ms t y step.0
 
 codes_of_lem : (n : ℕ) (cs : List ℕ) → map (λ (e : LexError). e.code) (map (lex_error n) cs) ≡ cs
 codes_of_lem n [] = refl

@@ -10,38 +10,41 @@ use Rattle.converter.specs.declared.messages.Mode.{Mode}
 use Rattle.converter.specs.declared.messages.Mode.TheVariants as mode
 use Rattle.converter.specs.declared.complaint.Complaint.{Complaint}
 use Rattle.converter.specs.declared.complaint.Complaint.TheVariants.{Silent, Says, First, Every, Prefix}
+use Rattle.converter.specs.declared.message.Message.{Message}
+use Rattle.converter.specs.declared.message.Message.TheVariants as says
+use Rattle.converter.specs.Message.{message_code}
 use Rattle.converter.specs.Messages.{message}
 
--- where something is wrong, its one code
-abbrev pub say_if : Bool → ℕ → Complaint
-say_if wrong code = cond wrong (Says code) Silent
+-- where something is wrong, its one message
+abbrev pub say_if : Bool → Message → Complaint
+say_if wrong m = cond wrong (Says m) Silent
 
 -- of a literal: an unterminated one misses its end, and no more is said of it; of a character or byte only the first fault
 -- counts; a raw string is valid or not, and its faults are not looked at
 abbrev pub literal_complaint : LiteralKind → Complaint
-literal_complaint (Int empty) = say_if empty 11
-literal_complaint (Float empty) = say_if empty 12
-literal_complaint (Char terminated) = cond terminated (First mode.Char) (Says 13)
-literal_complaint (Byte terminated) = cond terminated (First mode.Byte) (Says 14)
-literal_complaint (Str terminated) = cond terminated (Every mode.Str) (Says 15)
-literal_complaint (ByteStr terminated) = cond terminated (Every mode.ByteStr) (Says 16)
-literal_complaint (CStr terminated) = cond terminated (Every mode.CStr) (Says 17)
-literal_complaint (RawStr valid) = cond valid Silent (Says 10)
-literal_complaint (RawByteStr valid) = cond valid Silent (Says 10)
-literal_complaint (RawCStr valid) = cond valid Silent (Says 10)
+literal_complaint (Int empty) = say_if empty says.EmptyInt
+literal_complaint (Float empty) = say_if empty says.EmptyExponent
+literal_complaint (Char terminated) = cond terminated (First mode.Char) (Says says.UnterminatedChar)
+literal_complaint (Byte terminated) = cond terminated (First mode.Byte) (Says says.UnterminatedByte)
+literal_complaint (Str terminated) = cond terminated (Every mode.Str) (Says says.UnterminatedStr)
+literal_complaint (ByteStr terminated) = cond terminated (Every mode.ByteStr) (Says says.UnterminatedByteStr)
+literal_complaint (CStr terminated) = cond terminated (Every mode.CStr) (Says says.UnterminatedCStr)
+literal_complaint (RawStr valid) = cond valid Silent (Says says.InvalidRawString)
+literal_complaint (RawByteStr valid) = cond valid Silent (Says says.InvalidRawString)
+literal_complaint (RawCStr valid) = cond valid Silent (Says says.InvalidRawString)
 
 abbrev pub complaint_of : RawKind → Complaint
 complaint_of (LineComment doc) = Silent
-complaint_of (BlockComment doc terminated) = cond terminated Silent (Says 1)
-complaint_of (Frontmatter space info) = cond space (Says 2) (say_if info 3)
+complaint_of (BlockComment doc terminated) = cond terminated Silent (Says says.UnterminatedBlockComment)
+complaint_of (Frontmatter space info) = cond space (Says says.InvalidFrontmatterWhitespace) (say_if info says.InvalidInfostring)
 complaint_of Whitespace = Silent
 complaint_of Ident = Silent
-complaint_of InvalidIdent = Says 4
+complaint_of InvalidIdent = Says says.InvalidIdent
 complaint_of RawIdent = Silent
-complaint_of GuardedStrPrefix = Says 5
+complaint_of GuardedStrPrefix = Says says.ReservedStringLiteral
 complaint_of (Literal l) = literal_complaint l
-complaint_of (Lifetime number) = say_if number 6
-complaint_of UnknownPrefixLifetime = Says 7
+complaint_of (Lifetime number) = say_if number says.LifetimeStartsWithNumber
+complaint_of UnknownPrefixLifetime = Says says.UnknownLifetimePrefix
 complaint_of RawLifetime = Silent
 complaint_of Semi = Silent
 complaint_of Comma = Silent
@@ -77,15 +80,15 @@ complaint_of Eof = Silent
 -- an unknown prefix: `builtin` is one that the parser knows; the hint is that a string before it is likely unterminated
 abbrev pub settled : Bool → List ℕ → Complaint → Complaint
 settled hint text Silent = Silent
-settled hint text (Says code) = Says code
+settled hint text (Says m) = Says m
 settled hint text (First m) = First m
 settled hint text (Every m) = Every m
-settled hint text Prefix = cond (bytes_eq text (codes "builtin")) Silent (cond hint (Says 8) (Says 9))
+settled hint text Prefix = cond (bytes_eq text (codes "builtin")) Silent (cond hint (Says says.UnknownPrefixNearString) (Says says.UnknownPrefix))
 
--- the code, where there is one
-abbrev pub listed : Option ℕ → List ℕ
+-- the code of the message, where there is one
+abbrev pub listed : Option Message → List ℕ
 listed None = []
-listed (Some code) = code ∷ []
+listed (Some m) = message_code m ∷ []
 
 -- the messages of all faults, in order
 abbrev pub messages : Mode → List EscapeError → List ℕ
@@ -100,7 +103,7 @@ first_message m (e ∷ es) = message m e
 -- the codes of a settled complaint about a token with these faults
 abbrev pub said : List EscapeError → Complaint → List ℕ
 said es Silent = []
-said es (Says code) = code ∷ []
+said es (Says m) = message_code m ∷ []
 said es (First m) = first_message m es
 said es (Every m) = messages m es
 said es Prefix = []

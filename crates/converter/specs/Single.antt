@@ -11,11 +11,6 @@ abbrev pub last_from : Option ℕ → List ℕ → Option ℕ
 last_from before [] = before
 last_from before (x ∷ xs) = last_from (Some x) xs
 
--- the code, or else what came before it
-abbrev pub later : Option ℕ → Option ℕ → Option ℕ
-later None before = before
-later (Some code) before = Some code
-
 abbrev pub last_of : List ℕ → Option ℕ
 last_of xs = last_from None xs
 

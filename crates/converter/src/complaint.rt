@@ -5,19 +5,20 @@ ghost use Rattle.converter.specs.Codes.{say_if, literal_complaint, complaint_of,
 ghost use Rattle.converter.specs.Hints.{hint};
 
 use crate::hint::has_likely_unterminated_string;
+use crate::message::Message;
 use crate::messages::Mode;
 use crate::progress::Progress;
 use raw::{LiteralKind, RawKind};
 
-#[derive(Clone, Copy)]
+#[derive(Clone, Copy, Debug, PartialEq, Eq)]
 pub(crate) enum Complaint {
     Silent,
     // One message.
-    Says { code: u16 },
+    Says(Message),
     // The message of the first fault.
-    First { mode: Mode },
+    First(Mode),
     // Those of all faults.
-    Every { mode: Mode },
+    Every(Mode),
     // An unknown prefix: what is said of it hangs on the tokens before.
     Prefix,
 }
@@ -26,20 +27,26 @@ pub(crate) fn complaint_of(kind: RawKind) -> Complaint
     ensures { result ≡ complaint_of kind }
 {
     match kind {
-        RawKind::BlockComment { terminated, .. } => say_if(!terminated, 1),
+        RawKind::BlockComment { terminated, .. } => say_if(
+            !terminated,
+            Message::UnterminatedBlockComment,
+        ),
         RawKind::Frontmatter {
             has_invalid_preceding_whitespace: true,
             ..
-        } => Complaint::Says { code: 2 },
+        } => Complaint::Says(Message::InvalidFrontmatterWhitespace),
         RawKind::Frontmatter {
             invalid_infostring,
             ..
-        } => say_if(invalid_infostring, 3),
-        RawKind::InvalidIdent => Complaint::Says { code: 4 },
-        RawKind::GuardedStrPrefix => Complaint::Says { code: 5 },
+        } => say_if(invalid_infostring, Message::InvalidInfostring),
+        RawKind::InvalidIdent => Complaint::Says(Message::InvalidIdent),
+        RawKind::GuardedStrPrefix => Complaint::Says(Message::ReservedStringLiteral),
         RawKind::Literal { kind } => literal_complaint(kind),
-        RawKind::Lifetime { starts_with_number } => say_if(starts_with_number, 6),
-        RawKind::UnknownPrefixLifetime => Complaint::Says { code: 7 },
+        RawKind::Lifetime { starts_with_number } => say_if(
+            starts_with_number,
+            Message::LifetimeStartsWithNumber,
+        ),
+        RawKind::UnknownPrefixLifetime => Complaint::Says(Message::UnknownLifetimePrefix),
         RawKind::UnknownPrefix => Complaint::Prefix,
         _ => Complaint::Silent,
     }
@@ -49,33 +56,32 @@ fn literal_complaint(kind: LiteralKind) -> Complaint
     ensures { result ≡ literal_complaint kind }
 {
     match kind {
-        LiteralKind::Int { empty_int } => say_if(empty_int, 11),
-        LiteralKind::Float { empty_exponent } => say_if(empty_exponent, 12),
-        LiteralKind::Char { terminated: true } => Complaint::First { mode: Mode::Char },
-        LiteralKind::Char { terminated: false } => Complaint::Says { code: 13 },
-        LiteralKind::Byte { terminated: true } => Complaint::First { mode: Mode::Byte },
-        LiteralKind::Byte { terminated: false } => Complaint::Says { code: 14 },
-        LiteralKind::Str { terminated: true } => Complaint::Every { mode: Mode::Str },
-        LiteralKind::Str { terminated: false } => Complaint::Says { code: 15 },
-        LiteralKind::ByteStr { terminated: true } => Complaint::Every {
-            mode: Mode::ByteStr,
-        },
-        LiteralKind::ByteStr { terminated: false } => Complaint::Says { code: 16 },
-        LiteralKind::CStr { terminated: true } => Complaint::Every { mode: Mode::CStr },
-        LiteralKind::CStr { terminated: false } => Complaint::Says { code: 17 },
+        LiteralKind::Int { empty_int } => say_if(empty_int, Message::EmptyInt),
+        LiteralKind::Float { empty_exponent } => say_if(empty_exponent, Message::EmptyExponent),
+        LiteralKind::Char { terminated: true } => Complaint::First(Mode::Char),
+        LiteralKind::Char { terminated: false } => Complaint::Says(Message::UnterminatedChar),
+        LiteralKind::Byte { terminated: true } => Complaint::First(Mode::Byte),
+        LiteralKind::Byte { terminated: false } => Complaint::Says(Message::UnterminatedByte),
+        LiteralKind::Str { terminated: true } => Complaint::Every(Mode::Str),
+        LiteralKind::Str { terminated: false } => Complaint::Says(Message::UnterminatedStr),
+        LiteralKind::ByteStr { terminated: true } => Complaint::Every(Mode::ByteStr),
+        LiteralKind::ByteStr { terminated: false } => Complaint::Says(Message::UnterminatedByteStr),
+        LiteralKind::CStr { terminated: true } => Complaint::Every(Mode::CStr),
+        LiteralKind::CStr { terminated: false } => Complaint::Says(Message::UnterminatedCStr),
         LiteralKind::RawStr { valid }
         | LiteralKind::RawByteStr { valid }
-        | LiteralKind::RawCStr { valid } => { say_if(!valid, 10) }
+        | LiteralKind::RawCStr { valid } => { say_if(!valid, Message::InvalidRawString) }
     }
 }
 
-fn say_if(wrong: bool, code: u16) -> Complaint
-    ensures { result ≡ say_if wrong code }
+fn say_if(wrong: bool, message: Message) -> Complaint
+    ensures { result ≡ say_if wrong message }
 {
     if wrong {
-        return Complaint::Says { code };
+        Complaint::Says(message)
+    } else {
+        Complaint::Silent
     }
-    Complaint::Silent
 }
 
 // Of an unknown prefix the hint is that a string among the last five tokens is likely unterminated; `builtin` is a
@@ -93,7 +99,7 @@ pub(crate) fn settle(
 {
     match complaint {
         Complaint::Prefix => {
-            if same(text, b"builtin") {
+            if text == b"builtin".as_slice() {
                 Complaint::Silent
             } else if has_likely_unterminated_string(
                 script,
@@ -103,17 +109,11 @@ pub(crate) fn settle(
                 so_far.tokens,
                 so_far.place,
             ) {
-                Complaint::Says { code: 8 }
+                Complaint::Says(Message::UnknownPrefixNearString)
             } else {
-                Complaint::Says { code: 9 }
+                Complaint::Says(Message::UnknownPrefix)
             }
         }
         other => other,
     }
-}
-
-fn same(text: &[u8], word: &[u8]) -> bool
-    ensures { result ≡ bytes_eq text.now word.now }
-{
-    text == word
 }

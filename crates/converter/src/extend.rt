@@ -12,6 +12,7 @@ use crate::cut::cut;
 use crate::errors::write_errors;
 use crate::kind::kind_of;
 use crate::progress::Progress;
+use crate::said::Said;
 use lexed_str::LexError;
 use raw::{RawSource, RawToken};
 
@@ -60,14 +61,8 @@ pub(crate) fn extend<S: RawSource>(
     let complaint = settle(complaint_of(token.kind), text, bytes, kinds, starts, so_far);
     kinds[so_far.tokens] = kind_of(edition, text, token.kind);
     starts[so_far.tokens] = place as u32;
-    let written = write_errors(
-        source,
-        place,
-        complaint,
-        so_far.tokens as u32,
-        errors,
-        so_far.errors,
-    );
+    let said = Said::of(source, place, complaint);
+    let written = write_errors(said, so_far.tokens as u32, errors, so_far.errors);
     Progress {
         tokens: so_far.tokens + 1,
         errors: written,

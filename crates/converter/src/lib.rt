@@ -6,6 +6,7 @@ mod convert;
 mod cut;
 mod errors;
 mod extend;
+mod faults;
 mod head;
 mod hint;
 mod kind;
@@ -14,6 +15,7 @@ mod message;
 mod messages;
 mod progress;
 mod refusal;
+mod said;
 mod single;
 
 pub use lexing::{Counts, lex};

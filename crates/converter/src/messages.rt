@@ -1,12 +1,14 @@
-// The codes of the messages. Each text has one; docs/MESSAGES.md has the texts.
+// Which message a fault has.
 ghost use Rattle.std.specs.Prelude.{◌≡◌};
+ghost use Rattle.converter.specs.Message.{message_code};
 ghost use Rattle.converter.specs.Messages.{message, invalid_escape, escape_only, non_ascii};
 ghost use Rattle.converter.specs.Codes.{listed};
 
+use crate::message::Message;
 use raw::EscapeError;
 
 // Which literal the fault stands in.
-#[derive(Clone, Copy)]
+#[derive(Clone, Copy, Debug, PartialEq, Eq)]
 pub(crate) enum Mode {
     Char,
     Byte,
@@ -15,11 +17,11 @@ pub(crate) enum Mode {
     CStr,
 }
 
-// The code of a fault's message; none where the message is empty.
-pub(crate) fn err_to_msg(error: EscapeError, mode: Mode) -> Option<u16>
+// The message of a fault; none where the message is empty.
+pub(crate) fn err_to_msg(error: EscapeError, mode: Mode) -> Option<Message>
     ensures { listed result ≡ message mode error }
 {
-    let code = match error {
+    Some(match error {
         EscapeError::LoneSlash
         | EscapeError::BareCarriageReturn
         | EscapeError::BareCarriageReturnInRawString
@@ -28,49 +30,48 @@ pub(crate) fn err_to_msg(error: EscapeError, mode: Mode) -> Option<u16>
         EscapeError::InvalidEscape => invalid_escape(mode),
         EscapeError::EscapeOnlyChar => escape_only(mode),
         EscapeError::NonAsciiCharInByte => non_ascii(mode),
-        EscapeError::ZeroChars => 18,
-        EscapeError::MoreThanOneChar => 19,
-        EscapeError::TooShortHexEscape => 24,
-        EscapeError::InvalidCharInHexEscape => 25,
-        EscapeError::OutOfRangeHexEscape => 26,
-        EscapeError::NoBraceInUnicodeEscape => 27,
-        EscapeError::InvalidCharInUnicodeEscape => 28,
-        EscapeError::EmptyUnicodeEscape => 29,
-        EscapeError::UnclosedUnicodeEscape => 30,
-        EscapeError::LeadingUnderscoreUnicodeEscape => 31,
-        EscapeError::OverlongUnicodeEscape => 32,
-        EscapeError::LoneSurrogateUnicodeEscape => 33,
-        EscapeError::OutOfRangeUnicodeEscape => 33,
-        EscapeError::UnicodeEscapeInByte => 34,
-        EscapeError::NulInCStr => 38,
-    };
-    Some(code)
+        EscapeError::ZeroChars => Message::ZeroChars,
+        EscapeError::MoreThanOneChar => Message::MoreThanOneChar,
+        EscapeError::TooShortHexEscape => Message::TooShortHexEscape,
+        EscapeError::InvalidCharInHexEscape => Message::InvalidCharInHexEscape,
+        EscapeError::OutOfRangeHexEscape => Message::OutOfRangeHexEscape,
+        EscapeError::NoBraceInUnicodeEscape => Message::NoBraceInUnicodeEscape,
+        EscapeError::InvalidCharInUnicodeEscape => Message::InvalidCharInUnicodeEscape,
+        EscapeError::EmptyUnicodeEscape => Message::EmptyUnicodeEscape,
+        EscapeError::UnclosedUnicodeEscape => Message::UnclosedUnicodeEscape,
+        EscapeError::LeadingUnderscoreUnicodeEscape => Message::LeadingUnderscoreUnicodeEscape,
+        EscapeError::OverlongUnicodeEscape => Message::OverlongUnicodeEscape,
+        EscapeError::LoneSurrogateUnicodeEscape => Message::InvalidUnicodeEscape,
+        EscapeError::OutOfRangeUnicodeEscape => Message::InvalidUnicodeEscape,
+        EscapeError::UnicodeEscapeInByte => Message::UnicodeEscapeInByte,
+        EscapeError::NulInCStr => Message::NulInCStr,
+    })
 }
 
-fn invalid_escape(mode: Mode) -> u16
-    ensures { result ≡ invalid_escape mode }
+fn invalid_escape(mode: Mode) -> Message
+    ensures { message_code result ≡ invalid_escape mode }
 {
     match mode {
-        Mode::Byte | Mode::ByteStr => 20,
-        Mode::Char | Mode::Str | Mode::CStr => 21,
+        Mode::Byte | Mode::ByteStr => Message::UnknownByteEscape,
+        Mode::Char | Mode::Str | Mode::CStr => Message::UnknownCharEscape,
     }
 }
 
-fn escape_only(mode: Mode) -> u16
-    ensures { result ≡ escape_only mode }
+fn escape_only(mode: Mode) -> Message
+    ensures { message_code result ≡ escape_only mode }
 {
     match mode {
-        Mode::Byte => 22,
-        Mode::Char | Mode::Str | Mode::ByteStr | Mode::CStr => 23,
+        Mode::Byte => Message::UnescapedByte,
+        Mode::Char | Mode::Str | Mode::ByteStr | Mode::CStr => Message::UnescapedChar,
     }
 }
 
-fn non_ascii(mode: Mode) -> u16
-    ensures { result ≡ non_ascii mode }
+fn non_ascii(mode: Mode) -> Message
+    ensures { message_code result ≡ non_ascii mode }
 {
     match mode {
-        Mode::Byte => 35,
-        Mode::ByteStr => 36,
-        Mode::Char | Mode::Str | Mode::CStr => 37,
+        Mode::Byte => Message::NonAsciiCharInByte,
+        Mode::ByteStr => Message::NonAsciiCharInByteStr,
+        Mode::Char | Mode::Str | Mode::CStr => Message::NonAsciiCharInRawByteStr,
     }
 }

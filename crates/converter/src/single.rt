@@ -1,16 +1,16 @@
 // Scripts that are one token.
 ghost use Rattle.std.specs.Prelude.{◌≡◌, ◌<◌, ◌≤◌, true, MatchResult};
 ghost use Rattle.raw.specs.Answers.{begins};
-ghost use Rattle.converter.specs.Codes.{said, messages, first_message};
 ghost use Rattle.converter.specs.Meaning.{meaning};
-ghost use Rattle.converter.specs.Single.{single, single_answer, whole, later, last_of, Single};
+ghost use Rattle.converter.specs.Single.{single, single_answer, whole, Single};
 
-use crate::complaint::{Complaint, complaint_of, settle};
+use crate::complaint::{complaint_of, settle};
 use crate::extend::{raw_token_at, token_at};
 use crate::kind::kind_of;
-use crate::messages::{Mode, err_to_msg};
+use crate::message::Message;
 use crate::progress::Progress;
 use crate::refusal::Refusal;
+use crate::said::Said;
 use raw::RawSource;
 use syntax_kind::EDITION_2024;
 
@@ -25,20 +25,7 @@ pub fn single_token<S: RawSource>(
     if edition > EDITION_2024 {
         return Err(Refusal::Edition);
     }
-    Ok(alone(source, edition, single(source, edition)))
-}
-
-// Gives the answer back with what it means.
-fn alone<S: RawSource>(
-    source: &S,
-    edition: u8,
-    answer: Option<(u16, Option<u16>)>,
-) -> Option<(u16, Option<u16>)>
-    requires { answer ≡ single (meaning (S.RawSource.script source.now) (S.RawSource.token source.now) (S.RawSource.faults source.now) (S.RawSource.shebang source.now)) edition }
-    ensures value { result ≡ single (meaning (S.RawSource.script source.now) (S.RawSource.token source.now) (S.RawSource.faults source.now) (S.RawSource.shebang source.now)) edition }
-    ensures alone { Single (meaning (S.RawSource.script source.now) (S.RawSource.token source.now) (S.RawSource.faults source.now) (S.RawSource.shebang source.now)) edition result }
-{
-    answer
+    Ok(single(source, edition))
 }
 
 fn single<S: RawSource>(source: &S, edition: u8) -> Option<(u16, Option<u16>)>
@@ -61,7 +48,7 @@ fn single<S: RawSource>(source: &S, edition: u8) -> Option<(u16, Option<u16>)>
     let complaint = settle(complaint_of(token.kind), text, bytes, &[], &[], start);
     Some((
         kind_of(edition, text, token.kind),
-        last_code(source, 0, complaint),
+        Said::of(source, 0, complaint).last().map(Message::code),
     ))
 }
 
@@ -76,48 +63,4 @@ fn is_whole<S: RawSource>(source: &S, edition: u8) -> bool
         return false;
     }
     raw_token_at(source, 0).len as usize == len && token_at(source, edition, 0).len as usize == len
-}
-
-fn last_code<S: RawSource>(source: &S, place: usize, complaint: Complaint) -> Option<u16>
-    requires { begins (S.RawSource.script source.now) place ≡ true }
-    ensures { result ≡ last_of (said (S.RawSource.faults source.now place) complaint) }
-{
-    match complaint {
-        Complaint::Silent | Complaint::Prefix => None,
-        Complaint::Says { code } => Some(code),
-        Complaint::First { mode } => first_message(source, place, mode),
-        Complaint::Every { mode } => last_message(source, place, mode),
-    }
-}
-
-fn first_message<S: RawSource>(source: &S, place: usize, mode: Mode) -> Option<u16>
-    requires { begins (S.RawSource.script source.now) place ≡ true }
-    ensures { result ≡ last_of (first_message mode (S.RawSource.faults source.now place)) }
-{
-    match source.fault_at(place, 0) {
-        Ok(fault) => err_to_msg(fault, mode),
-        Err(_) => None,
-    }
-}
-
-fn last_message<S: RawSource>(source: &S, place: usize, mode: Mode) -> Option<u16>
-    requires { begins (S.RawSource.script source.now) place ≡ true }
-    ensures { result ≡ last_of (messages mode (S.RawSource.faults source.now place)) }
-{
-    let mut last = None;
-    let mut number = 0;
-    while let Ok(fault) = source.fault_at(place, number) {
-        last = later(err_to_msg(fault, mode), last);
-        number += 1;
-    }
-    last
-}
-
-fn later(code: Option<u16>, before: Option<u16>) -> Option<u16>
-    ensures { result ≡ later code before }
-{
-    match code {
-        Some(_) => code,
-        None => before,
-    }
 }
