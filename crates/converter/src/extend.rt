@@ -2,6 +2,7 @@
 ghost use Rattle.std.specs.Prelude.{◌≡◌, ◌+◌, ◌<◌, ◌≤◌, true, length};
 ghost use Rattle.raw.specs.Answers.{begins};
 ghost use Rattle.script.specs.Places.{boundary};
+ghost use Rattle.syntax_kind.specs.Editions.{edition_number};
 ghost use Rattle.converter.specs.Columns.{held, Reached, Room, Kept};
 ghost use Rattle.converter.specs.Cuts.{cut};
 ghost use Rattle.converter.specs.Lexing.{extend};
@@ -15,6 +16,7 @@ use crate::progress::Progress;
 use crate::said::Said;
 use lexed_str::LexError;
 use raw::{RawSource, RawToken};
+use syntax_kind::Edition;
 
 // The raw token at a place where one begins.
 pub(crate) fn raw_token_at<S: RawSource>(source: &S, place: usize) -> RawToken
@@ -28,9 +30,9 @@ pub(crate) fn raw_token_at<S: RawSource>(source: &S, place: usize) -> RawToken
 }
 
 // The raw token at the place, under the edition's cut.
-pub(crate) fn token_at<S: RawSource>(source: &S, edition: u8, place: usize) -> RawToken
+pub(crate) fn token_at<S: RawSource>(source: &S, edition: Edition, place: usize) -> RawToken
     requires { begins (S.RawSource.script source.now) place ≡ true }
-    ensures value { result ≡ cut edition (S.RawSource.token source.now place) }
+    ensures value { result ≡ cut (edition_number edition) (S.RawSource.token source.now place) }
     ensures some { 0 < result.len }
     ensures within { place + result.len ≤ length (S.RawSource.script source.now) }
     ensures ends { boundary (S.RawSource.script source.now) (place + result.len) ≡ true }
@@ -40,15 +42,15 @@ pub(crate) fn token_at<S: RawSource>(source: &S, edition: u8, place: usize) -> R
 
 pub(crate) fn extend<S: RawSource>(
     source: &S,
-    edition: u8,
+    edition: Edition,
     kinds: &mut [u16],
     starts: &mut [u32],
     errors: &mut [LexError],
     so_far: Progress,
 ) -> Progress
-    requires { (edition ≤ 3) × Reached (S.RawSource.script source.now) so_far × (so_far.place < length (S.RawSource.script source.now)) × Room (length (S.RawSource.script source.now)) kinds.old starts.old errors.old }
+    requires { Reached (S.RawSource.script source.now) so_far × (so_far.place < length (S.RawSource.script source.now)) × Room (length (S.RawSource.script source.now)) kinds.old starts.old errors.old }
     ensures reached { Reached (S.RawSource.script source.now) result }
-    ensures held { held kinds.new starts.new errors.new result ≡ extend (meaning (S.RawSource.script source.now) (S.RawSource.token source.now) (S.RawSource.faults source.now) (S.RawSource.shebang source.now)) edition (held kinds.old starts.old errors.old so_far) }
+    ensures held { held kinds.new starts.new errors.new result ≡ extend (meaning (S.RawSource.script source.now) (S.RawSource.token source.now) (S.RawSource.faults source.now) (S.RawSource.shebang source.now)) (edition_number edition) (held kinds.old starts.old errors.old so_far) }
     ensures kept { Kept kinds.old starts.old kinds.new starts.new errors.old errors.new result }
     ensures more { (result.tokens ≡ so_far.tokens + 1) × (so_far.errors ≤ result.errors) × (so_far.place < result.place) }
 {

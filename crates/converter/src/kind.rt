@@ -1,14 +1,13 @@
 // The kind of a token.
-ghost use Rattle.std.specs.Prelude.{◌≡◌, ◌≤◌};
-ghost use Rattle.syntax_kind.specs.Keywords.{look_up, strict};
-ghost use Rattle.converter.specs.Kinds.{comment_kind, keyword_or, name_kind, literal_kind, kind_of};
+ghost use Rattle.std.specs.Prelude.{◌≡◌};
+ghost use Rattle.syntax_kind.specs.Editions.{edition_number};
+ghost use Rattle.converter.specs.Kinds.{comment_kind, name_kind, literal_kind, kind_of};
 
 use raw::{DocStyle, LiteralKind, RawKind};
-use syntax_kind::{from_keyword, kinds};
+use syntax_kind::{Edition, kinds};
 
-pub(crate) fn kind_of(edition: u8, text: &[u8], kind: RawKind) -> u16
-    requires { edition ≤ 3 }
-    ensures { result ≡ kind_of edition text.now kind }
+pub(crate) fn kind_of(edition: Edition, text: &[u8], kind: RawKind) -> u16
+    ensures { result ≡ kind_of (edition_number edition) text.now kind }
 {
     match kind {
         RawKind::LineComment { doc_style } | RawKind::BlockComment { doc_style, .. } =>
@@ -62,24 +61,12 @@ fn comment_kind(doc_style: Option<DocStyle>) -> u16
     }
 }
 
-fn name_kind(edition: u8, text: &[u8]) -> u16
-    requires { edition ≤ 3 }
-    ensures { result ≡ name_kind edition text.now }
+fn name_kind(edition: Edition, text: &[u8]) -> u16
+    ensures { result ≡ name_kind (edition_number edition) text.now }
 {
-    if text.len() == 1 && text[0] == b'_' {
-        return kinds::UNDERSCORE;
-    }
-    keyword_kind(edition, text)
-}
-
-fn keyword_kind(edition: u8, text: &[u8]) -> u16
-    requires { edition ≤ 3 }
-    ensures { result ≡ keyword_or (look_up strict text.now edition) }
-{
-    match from_keyword(text, edition) {
-        Ok(Some(kind)) => kind,
-        Ok(None) => kinds::IDENT,
-        Err(_) => unreachable(),
+    match text {
+        [b'_'] => kinds::UNDERSCORE,
+        _ => edition.keyword(text).unwrap_or(kinds::IDENT),
     }
 }
 

@@ -1,5 +1,6 @@
 // Lexing.
 ghost use Rattle.std.specs.Prelude.{◌≡◌, ◌<◌, ◌≤◌, length, Ok};
+ghost use Rattle.syntax_kind.specs.Editions.{edition_number};
 ghost use Rattle.converter.specs.Columns.{over};
 ghost use Rattle.converter.specs.Lexes.{Keeps, Only, Readable};
 ghost use Rattle.converter.specs.Lexing.{lexed};
@@ -9,13 +10,14 @@ ghost use Rattle.converter.specs.Refusals.{refusal};
 
 use crate::convert::extend_all;
 use crate::head::write_head;
-use crate::refusal::{Refusal, why_not};
+use crate::refusal::Refusal;
 use lexed_str::LexError;
 use raw::RawSource;
+use syntax_kind::Edition;
 use syntax_kind::kinds::EOF;
 
 // How many tokens there are, the end's entry not counted, and how many errors.
-#[derive(Clone, Copy)]
+#[derive(Clone, Copy, Debug, PartialEq, Eq)]
 pub struct Counts {
     pub tokens: usize,
     pub errors: usize,
@@ -37,33 +39,29 @@ pub fn lex<S: RawSource>(
     ensures only { Only (meaning (S.RawSource.script source.now) (S.RawSource.token source.now) (S.RawSource.faults source.now) (S.RawSource.shebang source.now)) edition result kinds.new starts.new errors.new }
     ensures readable { Readable (meaning (S.RawSource.script source.now) (S.RawSource.token source.now) (S.RawSource.faults source.now) (S.RawSource.shebang source.now)) result kinds.new starts.new errors.new }
 {
-    let script = source.script();
-    match why_not(
-        edition,
-        script.bytes().len(),
-        kinds.len(),
-        starts.len(),
-        errors.len(),
-    ) {
-        Some(why) => Err(why),
-        None => Ok(convert(source, edition, kinds, starts, errors)),
+    let edition = Edition::try_from(edition)?;
+    // Each byte may need a token and an error, and the end an entry.
+    let len = source.script().bytes().len();
+    if kinds.len() <= len || starts.len() <= len || errors.len() < len {
+        return Err(Refusal::Columns);
     }
+    Ok(convert(source, edition, kinds, starts, errors))
 }
 
 fn convert<S: RawSource>(
     source: &S,
-    edition: u8,
+    edition: Edition,
     kinds: &mut [u16],
     starts: &mut [u32],
     errors: &mut [LexError],
 ) -> Counts
-    requires { (edition ≤ 3) × (length (S.RawSource.script source.now) < length kinds.old) × (length (S.RawSource.script source.now) < length starts.old) × (length (S.RawSource.script source.now) ≤ length errors.old) }
-    ensures answer { (result.tokens ≡ length (lexed (meaning (S.RawSource.script source.now) (S.RawSource.token source.now) (S.RawSource.faults source.now) (S.RawSource.shebang source.now)) edition).kinds) × (result.errors ≡ length (lexed (meaning (S.RawSource.script source.now) (S.RawSource.token source.now) (S.RawSource.faults source.now) (S.RawSource.shebang source.now)) edition).errors) }
-    ensures kinds { kinds.new ≡ over (kinds_of (lexed (meaning (S.RawSource.script source.now) (S.RawSource.token source.now) (S.RawSource.faults source.now) (S.RawSource.shebang source.now)) edition)) kinds.old }
-    ensures starts { starts.new ≡ over (starts_of (lexed (meaning (S.RawSource.script source.now) (S.RawSource.token source.now) (S.RawSource.faults source.now) (S.RawSource.shebang source.now)) edition)) starts.old }
-    ensures errors { errors.new ≡ over (lexed (meaning (S.RawSource.script source.now) (S.RawSource.token source.now) (S.RawSource.faults source.now) (S.RawSource.shebang source.now)) edition).errors errors.old }
-    ensures law { Keeps (meaning (S.RawSource.script source.now) (S.RawSource.token source.now) (S.RawSource.faults source.now) (S.RawSource.shebang source.now)) edition (Ok result) kinds.new starts.new errors.new }
-    ensures only { Only (meaning (S.RawSource.script source.now) (S.RawSource.token source.now) (S.RawSource.faults source.now) (S.RawSource.shebang source.now)) edition (Ok result) kinds.new starts.new errors.new }
+    requires { (length (S.RawSource.script source.now) < length kinds.old) × (length (S.RawSource.script source.now) < length starts.old) × (length (S.RawSource.script source.now) ≤ length errors.old) }
+    ensures answer { (result.tokens ≡ length (lexed (meaning (S.RawSource.script source.now) (S.RawSource.token source.now) (S.RawSource.faults source.now) (S.RawSource.shebang source.now)) (edition_number edition)).kinds) × (result.errors ≡ length (lexed (meaning (S.RawSource.script source.now) (S.RawSource.token source.now) (S.RawSource.faults source.now) (S.RawSource.shebang source.now)) (edition_number edition)).errors) }
+    ensures kinds { kinds.new ≡ over (kinds_of (lexed (meaning (S.RawSource.script source.now) (S.RawSource.token source.now) (S.RawSource.faults source.now) (S.RawSource.shebang source.now)) (edition_number edition))) kinds.old }
+    ensures starts { starts.new ≡ over (starts_of (lexed (meaning (S.RawSource.script source.now) (S.RawSource.token source.now) (S.RawSource.faults source.now) (S.RawSource.shebang source.now)) (edition_number edition))) starts.old }
+    ensures errors { errors.new ≡ over (lexed (meaning (S.RawSource.script source.now) (S.RawSource.token source.now) (S.RawSource.faults source.now) (S.RawSource.shebang source.now)) (edition_number edition)).errors errors.old }
+    ensures law { Keeps (meaning (S.RawSource.script source.now) (S.RawSource.token source.now) (S.RawSource.faults source.now) (S.RawSource.shebang source.now)) (edition_number edition) (Ok result) kinds.new starts.new errors.new }
+    ensures only { Only (meaning (S.RawSource.script source.now) (S.RawSource.token source.now) (S.RawSource.faults source.now) (S.RawSource.shebang source.now)) (edition_number edition) (Ok result) kinds.new starts.new errors.new }
     ensures readable { Readable (meaning (S.RawSource.script source.now) (S.RawSource.token source.now) (S.RawSource.faults source.now) (S.RawSource.shebang source.now)) (Ok result) kinds.new starts.new errors.new }
 {
     let head = write_head(source, kinds, starts);

@@ -1,10 +1,12 @@
 // Why a script is not lexed.
-ghost use Rattle.std.specs.Prelude.{◌≡◌, ◌<◌, ◌≤◌, IfNone};
-ghost use Rattle.converter.specs.Refusals.{number, refusal};
+ghost use Rattle.std.specs.Prelude.{◌≡◌, Some};
+ghost use Rattle.converter.specs.Refusals.{number, refusal_text};
 
-use syntax_kind::EDITION_2024;
+use std::error::Error;
+use std::fmt;
+use syntax_kind::UnknownEdition;
 
-#[derive(Clone, Copy)]
+#[derive(Clone, Copy, Debug, PartialEq, Eq)]
 pub enum Refusal {
     // The edition is past 2024.
     Edition,
@@ -24,22 +26,26 @@ impl Refusal {
     }
 }
 
-// Lexing needs room for one token a byte and the end's entry, and for one error a byte.
-pub(crate) fn why_not(
-    edition: u8,
-    len: usize,
-    kinds: usize,
-    starts: usize,
-    errors: usize,
-) -> Option<Refusal>
-    ensures value { result ≡ refusal edition len kinds starts errors }
-    ensures room { IfNone result ((edition ≤ 3) × (len < kinds) × (len < starts) × (len ≤ errors)) }
-{
-    if edition > EDITION_2024 {
-        return Some(Refusal::Edition);
+impl From<UnknownEdition> for Refusal {
+    ghost use Rattle.std.specs.Prelude.{◌≡◌};
+    ghost use Rattle.converter.specs.declared.refusal.Refusal.TheVariants as refusal;
+
+    ghost from_gives = { λ _ r. r ≡ refusal.Edition };
+
+    fn from(_unknown: UnknownEdition) -> Refusal {
+        Refusal::Edition
     }
-    if kinds <= len || starts <= len || errors < len {
-        return Some(Refusal::Columns);
-    }
-    None
 }
+
+impl fmt::Display for Refusal {
+    ghost output = { λ r. Some (refusal_text r) };
+
+    fn fmt<W: fmt::Write>(&self, f: &mut fmt::Formatter<W>) -> fmt::Result {
+        f.write_str(match self {
+            Refusal::Edition => "no such edition",
+            Refusal::Columns => "too little room in a column",
+        })
+    }
+}
+
+impl Error for Refusal {}

@@ -1,6 +1,7 @@
 // Scripts that are one token.
 ghost use Rattle.std.specs.Prelude.{◌≡◌, ◌<◌, ◌≤◌, true, MatchResult};
 ghost use Rattle.raw.specs.Answers.{begins};
+ghost use Rattle.syntax_kind.specs.Editions.{edition_number};
 ghost use Rattle.converter.specs.Meaning.{meaning};
 ghost use Rattle.converter.specs.Single.{single, single_answer, whole, Single};
 
@@ -12,7 +13,7 @@ use crate::progress::Progress;
 use crate::refusal::Refusal;
 use crate::said::Said;
 use raw::RawSource;
-use syntax_kind::EDITION_2024;
+use syntax_kind::Edition;
 
 // The kind of the one token that the script is, with the last error code, if any. Neither shebang nor frontmatter is looked for.
 pub fn single_token<S: RawSource>(
@@ -22,15 +23,11 @@ pub fn single_token<S: RawSource>(
     ensures value { result ≡ single_answer (meaning (S.RawSource.script source.now) (S.RawSource.token source.now) (S.RawSource.faults source.now) (S.RawSource.shebang source.now)) edition }
     ensures alone { MatchResult result (λ answer. Single (meaning (S.RawSource.script source.now) (S.RawSource.token source.now) (S.RawSource.faults source.now) (S.RawSource.shebang source.now)) edition answer) (λ _. 3 < edition) }
 {
-    if edition > EDITION_2024 {
-        return Err(Refusal::Edition);
-    }
-    Ok(single(source, edition))
+    Ok(single(source, Edition::try_from(edition)?))
 }
 
-fn single<S: RawSource>(source: &S, edition: u8) -> Option<(u16, Option<u16>)>
-    requires { edition ≤ 3 }
-    ensures { result ≡ single (meaning (S.RawSource.script source.now) (S.RawSource.token source.now) (S.RawSource.faults source.now) (S.RawSource.shebang source.now)) edition }
+fn single<S: RawSource>(source: &S, edition: Edition) -> Option<(u16, Option<u16>)>
+    ensures { result ≡ single (meaning (S.RawSource.script source.now) (S.RawSource.token source.now) (S.RawSource.faults source.now) (S.RawSource.shebang source.now)) (edition_number edition) }
 {
     if !is_whole(source, edition) {
         return None;
@@ -53,8 +50,8 @@ fn single<S: RawSource>(source: &S, edition: u8) -> Option<(u16, Option<u16>)>
 }
 
 // Whether the raw token at the script's start is the whole script, and the edition cuts nothing off.
-fn is_whole<S: RawSource>(source: &S, edition: u8) -> bool
-    ensures value { result ≡ whole (meaning (S.RawSource.script source.now) (S.RawSource.token source.now) (S.RawSource.faults source.now) (S.RawSource.shebang source.now)) edition }
+fn is_whole<S: RawSource>(source: &S, edition: Edition) -> bool
+    ensures value { result ≡ whole (meaning (S.RawSource.script source.now) (S.RawSource.token source.now) (S.RawSource.faults source.now) (S.RawSource.shebang source.now)) (edition_number edition) }
     ensures begins { result ≡ true → begins (S.RawSource.script source.now) 0 ≡ true }
 {
     let script = source.script();

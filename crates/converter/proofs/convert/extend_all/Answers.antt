@@ -3,14 +3,13 @@ use Rattle.converter.proofs.Running.{nothing_yet, turn, done}
 use Rattle.converter.proofs.convert.extend_all.Goals as goal
 
 pub loop-so_far-init : goal.loop-so_far-init
-loop-so_far-init g c = nothing_yet _ _ _ _ _ _ c.requires.1
+loop-so_far-init g c = nothing_yet _ _ _ _ _ _ c.requires.0
 
 pub extend-so_far-requires : goal.extend-so_far-requires
 extend-so_far-requires g c =
     let same = ap length (c.bytes-end.ensures ∙ c.script.ensures) in
-    let room = c.requires.2 in
+    let room = c.requires.1 in
     let kept = c.loop-so_far.auto in (
-      c.requires.0,
       c.loop-so_far.invariant.reached,
       omega (arith, same, c.loop-so_far-test.true),
       record { kinds = omega (arith, room.kinds, kept.kinds); starts = omega (arith, room.starts, kept.starts); errors = omega (arith, room.errors, kept.errors) },

@@ -1,6 +1,7 @@
-use Rattle.std.proofs.Common.{sym, subst}
+use Rattle.std.proofs.Common.{◌≡◌, sym, ap, ◌∙◌, subst}
+use Rattle.syntax_kind.specs.Editions.{edition_number}
 use Rattle.converter.specs.Meaning.{meaning}
-use Rattle.converter.specs.Single.{Single}
+use Rattle.converter.specs.Single.{Single, single}
 use Rattle.converter.proofs.Singles.{single_is}
 use Rattle.converter.proofs.single.single_token.Goals as goal
 
@@ -9,4 +10,5 @@ returns-clause-alone g c =
     let s = g.S.RawSource in
     let x = c.args.source.now in
     let m = meaning (s.script x) (s.token x) (s.faults x) (s.shebang x) in
-    subst (Single m c.args.edition) (sym c.single.ensures) (single_is m c.args.edition)
+    let e : edition_number c.in_ok-try_from.field-0 ≡ c.args.edition = c.in_ok-try_from.ensures in
+    subst (Single m c.args.edition) (sym (c.single.ensures ∙ ap (single m) e)) (single_is m c.args.edition)
