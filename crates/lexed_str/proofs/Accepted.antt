@@ -1,6 +1,9 @@
 -- The test of offered columns against their property, both ways. Assumes nothing.
-use Rattle.std.proofs.Common.{◌≡◌, ℕ, zero, suc, ◌+◌, ◌-◌, ◌<◌, ◌≤◌, true, not, ◌&&◌, eqb, ltb, leb, List, [], ◌∷◌, length, sym, subst, ⊎_elim, arith}
-use Rattle.std.proofs.lemmas.Bool.{and_parts, and_from, not-true, not_from_false, leb-true, le-leb, ltb-true, lt-ltb, eqb-true, eqb-false, eq-eqb, ne_eqb, cases_lt}
+use Rattle.std.proofs.Common.{◌≡◌, ℕ, zero, suc, ◌+◌, ◌-◌, ◌<◌, ◌≤◌, ◌↔◌, IsTrue, Bool, true, false, not, ◌&&◌, eqb, ltb, leb, List, [], ◌∷◌, length, sym, refl, subst, ⊎_elim, arith}
+use Rattle.std.proofs.lemmas.Bool.{and_parts, and_from, not-true, not_from_false, leb-true, le-leb, ltb-true, lt-ltb, eqb-true, eqb-false, eq-eqb, ne_eqb, cases_lt, false≢true}
+use Rattle.std.proofs.lemmas.Bool.Decides.{nat_tests}
+use Rattle.std.specs.List.{IsAllAdjacentAnswer}
+use Rattle.std.specs.Ordering.{nat_cmp, is_le}
 use Rattle.script.specs.Places.{boundary}
 use Rattle.lexed_str.specs.declared.error.LexError.{LexError}
 use Rattle.lexed_str.specs.Columns.{Columns, eof, last_kind, tokens, kind_at, start_at, token_at}
@@ -49,6 +52,49 @@ ascending es next (suc k) j l h =
     omega (arith, ascending es next k j (omega arith) (omega arith), step))
     (λ (there : suc k ≤ j). let same : j ≡ suc k = omega arith in subst (λ i. token_at es i ≤ token_at es (suc k)) (sym same) (omega arith))
     (cases_lt j (suc k))
+
+neighbour : (es : List LexError) → ((k : ℕ) → k + 1 < length es → token_at es k ≤ token_at es (k + 1)) → (i : ℕ) → i < length es → token_at es (i - 1) ≤ token_at es i
+neighbour es next zero l = omega arith
+neighbour es next (suc k) l =
+    let here : suc k - 1 ≡ k = omega arith in
+    let there : k + 1 ≡ suc k = omega arith in
+    subst (λ i. token_at es i ≤ token_at es (suc k)) (sym here) (subst (λ i. token_at es k ≤ token_at es i) there (next k (omega arith)))
+
+-- neighbours that ascend, and a last one that fits: each error fits
+pub errors_each :
+    (n : ℕ) (es : List LexError) → ((k : ℕ) → k + 1 < length es → token_at es k ≤ token_at es (k + 1)) → (0 < length es → token_at es (length es - 1) < n)
+    → (k : ℕ) → k < length es → error_fits n es k ≡ true
+errors_each n es next last k l =
+    let before : (i : ℕ) → i < length es → token_at es (i - 1) ≤ token_at es i = λ i m. neighbour es next i m in
+    and_from (ltb (token_at es k) n) (leb (token_at es (k - 1)) (token_at es k))
+    (lt-ltb (token_at es k) n (omega (arith, last (omega arith), ascending es before (length es - 1) k (omega arith) (omega arith))))
+    (le-leb (token_at es (k - 1)) (token_at es k) (before k l))
+
+-- and where each error fits, neighbours ascend, and the last one fits
+pub each_ascends :
+    (n : ℕ) (es : List LexError) → ((k : ℕ) → k < length es → error_fits n es k ≡ true)
+    → (k : ℕ) → k + 1 < length es → token_at es k ≤ token_at es (k + 1)
+each_ascends n es each k l =
+    let here : k + 1 - 1 ≡ k = omega arith in
+    subst (λ i. token_at es i ≤ token_at es (k + 1)) here
+    (leb-true (token_at es (k + 1 - 1)) (token_at es (k + 1)) (and_parts (ltb (token_at es (k + 1)) n) (leb (token_at es (k + 1 - 1)) (token_at es (k + 1))) (each (k + 1) l)).1)
+
+pub each_last :
+    (n : ℕ) (es : List LexError) → ((k : ℕ) → k < length es → error_fits n es k ≡ true)
+    → 0 < length es → token_at es (length es - 1) < n
+each_last n es each l =
+    let k = length es - 1 in
+    ltb-true (token_at es k) n (and_parts (ltb (token_at es k) n) (leb (token_at es (k - 1)) (token_at es k)) (each k (omega arith))).0
+
+-- what `is_sorted_by_key` says of errors by their tokens
+pub sorted_told :
+    (es : List LexError) (r : Bool) → IsAllAdjacentAnswer (λ (x y : LexError) b. b ≡ is_le (nat_cmp x.token y.token)) es r
+    → IsTrue r ↔ ((k : ℕ) → k + 1 < length es → token_at es k ≤ token_at es (k + 1))
+sorted_told es true h = (λ e k l. let here = h k (record { token = 0; code = 0 }) l in grind (arith, nat_tests), λ each. refl)
+sorted_told es false h =
+    let none : LexError = record { token = 0; code = 0 } in
+    let fails = h.2 none in
+    (λ e. absurd (false≢true e), λ each. let next = each h.0 h.1 in grind (arith, nat_tests))
 
 pub columns_from : (bs ks ss : List ℕ) (es : List LexError) → Known ks → columns_fit bs ks ss es ≡ true → Columns bs ks ss es
 unfolding Fits

@@ -1,6 +1,6 @@
 -- A test of each number below a bound. Assumes nothing.
 use Rattle.std.proofs.Common.{◌≡◌, ℕ, zero, suc, ◌+◌, ◌<◌, Bool, true, false, sym, refl, ap, ◌∙◌, ⊎_elim, add-one, arith}
-use Rattle.std.proofs.lemmas.Bool.{and_from, and_left, and_right, and_parts, and_cases, cases_eq, false≢true}
+use Rattle.std.proofs.lemmas.Bool.{and_from, and_left, and_right, and_parts, and_cases, cases_eq, cases_Bool, false≢true}
 use Rattle.lexed_str.specs.Offering.{all_below}
 
 -- a loop's turn: the test holds of one number more, or fails, and then not all pass
@@ -41,3 +41,13 @@ below_found test (suc n) e =
     (λ (here : test n ≡ false). (n, omega arith, here))
     (λ (before : all_below n test ≡ false). let found = below_found test n before in (found.0, omega (arith, found.1), found.2))
     (and_cases (test n) (all_below n test) e)
+
+-- a test of each, told by what it says of each
+pub below_told : (test : ℕ → Bool) (n : ℕ) (r : Bool) → (r ≡ true → (i : ℕ) → i < n → test i ≡ true) × (((i : ℕ) → i < n → test i ≡ true) → r ≡ true)
+    → r ≡ all_below n test
+below_told test n true told = sym (below_all test n (told.0 refl))
+below_told test n false told =
+    ⊎_elim
+    (λ (all : all_below n test ≡ true). absurd (false≢true (told.1 (below_each test n all))))
+    (λ (some : all_below n test ≡ false). sym some)
+    (cases_Bool (all_below n test))

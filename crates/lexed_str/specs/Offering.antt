@@ -51,8 +51,3 @@ after (Some why) o = Some (carried why)
 -- why columns of bytes are not read: the bytes are no script, or else the script's columns are not read
 abbrev pub bytes_refusal : List ℕ → List ℕ → List ℕ → List LexError → Option Refusal
 bytes_refusal bs ks ss es = after (script_refusal bs) (columns_refusal (admitted bs) ks ss es)
-
--- the column that is held: the one given, or where the offer is refused that of the empty script
-abbrev pub held : {A : Type 0} → Option Refusal → List A → List A → List A
-held None given none = given
-held (Some why) given none = none

@@ -1,7 +1,8 @@
 -- What each refusal is known by.
-use Rattle.std.specs.Prelude.{ℕ, Some, None, Option}
+use Rattle.std.specs.Prelude.{ℕ, List, Some, None, Option, codes}
 use Rattle.lexed_str.specs.declared.refusal.Refusal.{Refusal}
 use Rattle.lexed_str.specs.declared.refusal.Refusal.TheVariants.{TooLong, NotUtf8, Kind, Columns, NoToken}
+use Rattle.script.specs.Admission.{refusal_text as script_text}
 use Rattle.script.specs.declared.refusal.Refusal.{Refusal as ScriptRefusal}
 use Rattle.script.specs.declared.refusal.Refusal.TheVariants as script
 
@@ -25,4 +26,11 @@ value NoToken = None
 abbrev pub carried : ScriptRefusal → Refusal
 carried script.TooLong = TooLong
 carried (script.NotUtf8 at) = NotUtf8 at
-carried script.NoCharacter = NoToken
+
+-- what `{}` prints of a refusal
+abbrev pub refusal_text : Refusal → List ℕ
+refusal_text TooLong = script_text script.TooLong
+refusal_text (NotUtf8 at) = script_text (script.NotUtf8 at)
+refusal_text Kind = codes "a kind is past the last one"
+refusal_text Columns = codes "the columns do not fit"
+refusal_text NoToken = codes "there is no such token"

@@ -2,7 +2,7 @@
 use records::Keyed;
 
 // The code of a message, and the number of the token that it is about.
-#[derive(Clone, Copy)]
+#[derive(Clone, Copy, Debug, PartialEq, Eq)]
 pub struct LexError {
     pub token: u32,
     pub code: u16,

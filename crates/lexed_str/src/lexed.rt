@@ -3,21 +3,13 @@ ghost use Rattle.std.specs.Prelude.{◌≡◌, true};
 ghost use Rattle.lexed_str.specs.Offering.{accepts};
 
 use crate::error::LexError;
-use crate::refusal::Refusal;
 use script::Script;
 
-#[derive(Clone, Copy)]
+#[derive(Clone, Copy, Debug, PartialEq, Eq)]
 pub struct LexedStr<'a> {
     pub(crate) script: Script<'a>,
     pub(crate) kinds: &'a [u16],
     pub(crate) starts: &'a [u32],
     pub(crate) errors: &'a [LexError],
     ghost fits: { accepts script.bytes.now kinds.now starts.now errors.now ≡ true },
-}
-
-// The columns that were offered, or those of the empty script and why the offered ones are not read.
-#[derive(Clone, Copy)]
-pub struct Offered<'a> {
-    pub lexed: LexedStr<'a>,
-    pub refused: Option<Refusal>,
 }

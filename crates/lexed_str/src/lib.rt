@@ -8,5 +8,5 @@ mod read;
 mod refusal;
 
 pub use error::LexError;
-pub use lexed::{LexedStr, Offered};
+pub use lexed::LexedStr;
 pub use refusal::Refusal;

@@ -1,8 +1,11 @@
 // Why columns are not read, or a question about them has no answer.
-ghost use Rattle.std.specs.Prelude.{◌≡◌};
-ghost use Rattle.lexed_str.specs.Refusals.{number, value};
+ghost use Rattle.std.specs.Prelude.{◌≡◌, Some};
+ghost use Rattle.lexed_str.specs.Refusals.{number, value, refusal_text, carried};
 
-#[derive(Clone, Copy)]
+use std::error::Error;
+use std::fmt;
+
+#[derive(Clone, Copy, Debug, PartialEq, Eq)]
 pub enum Refusal {
     // The script has more than 4294967295 bytes.
     TooLong,
@@ -40,3 +43,30 @@ impl Refusal {
         }
     }
 }
+
+impl From<script::Refusal> for Refusal {
+    ghost from_gives = { λ why r. r ≡ carried why };
+
+    fn from(why: script::Refusal) -> Refusal {
+        match why {
+            script::Refusal::TooLong => Refusal::TooLong,
+            script::Refusal::NotUtf8 { at } => Refusal::NotUtf8 { at },
+        }
+    }
+}
+
+impl fmt::Display for Refusal {
+    ghost output = { λ why. Some (refusal_text why) };
+
+    fn fmt<W: fmt::Write>(&self, f: &mut fmt::Formatter<W>) -> fmt::Result {
+        match *self {
+            Refusal::TooLong => script::Refusal::TooLong.fmt(f),
+            Refusal::NotUtf8 { at } => script::Refusal::NotUtf8 { at }.fmt(f),
+            Refusal::Kind => f.write_str("a kind is past the last one"),
+            Refusal::Columns => f.write_str("the columns do not fit"),
+            Refusal::NoToken => f.write_str("there is no such token"),
+        }
+    }
+}
+
+impl Error for Refusal {}
