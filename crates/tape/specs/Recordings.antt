@@ -1,6 +1,7 @@
--- What becomes of a recording: why it is refused, and what its tape holds.
-use Rattle.std.specs.Prelude.{◌≡◌, ℕ, ◌+◌, ◌<◌, ◌≤◌, true, false, cond, List, length, Some, None, Option, ◌==◌, nat_le, slice_index_or}
+-- What becomes of a recording: why it is refused.
+use Rattle.std.specs.Prelude.{◌≡◌, ℕ, ◌+◌, ◌<◌, ◌≤◌, true, false, cond, List, ◌++◌, length, Some, None, Option, ◌==◌, nat_le, slice_index_or, codes, decimal}
 use Rattle.script.specs.Admission.{most, ill_formed, Judged as Admits}
+use Rattle.script.specs.declared.refusal.Refusal.{Refusal as Unread}
 use Rattle.script.specs.declared.refusal.Refusal.TheVariants as script
 use Rattle.raw.specs.Answers.{begins}
 use Rattle.raw.specs.Laws.{keeps, shebang_keeps}
@@ -26,6 +27,18 @@ value (refused.NotUtf8 at) = Some at
 value (refused.Mark n) = Some n
 value (refused.Shebang n) = Some n
 
+-- what `{}` prints of a refusal
+abbrev pub refusal_text : Refusal → List ℕ
+refusal_text refused.TooLong = codes "longer than 4294967295 bytes"
+refusal_text (refused.NotUtf8 at) = codes "not UTF-8, first at byte " ++ decimal at
+refusal_text (refused.Mark n) = codes "mark " ++ (decimal n ++ codes " breaks a rule")
+refusal_text (refused.Shebang n) = codes "the shebang length breaks its rule"
+
+-- why bytes that are no script make no tape
+abbrev pub unread : Unread → Refusal
+unread script.TooLong = refused.TooLong
+unread (script.NotUtf8 at) = refused.NotUtf8 at
+
 -- why marks over a script are refused: the first mark that breaks the rules, or else the shebang length
 abbrev pub refusal_over : List ℕ → List Mark → List EscapeError → ℕ → Option Refusal
 refusal_over bs ms fs shebang =
@@ -39,11 +52,6 @@ refusal bs ms fs shebang =
     cond (nat_le (length bs) most)
     (cond (ill_formed bs == length bs) (refusal_over bs ms fs shebang) (Some (refused.NotUtf8 (ill_formed bs))))
     (Some refused.TooLong)
-
--- what a tape holds: what was given, or what is empty where it was refused
-abbrev pub held : {A : Type 0} → Option Refusal → A → A → A
-held None given empty = given
-held (Some why) given empty = empty
 
 -- the mark with the number i of a list that has one
 abbrev pub nth : List Mark → ℕ → Mark

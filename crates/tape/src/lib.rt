@@ -10,4 +10,4 @@ mod tape;
 
 pub use mark::Mark;
 pub use refusal::Refusal;
-pub use tape::{Recording, Tape};
+pub use tape::Tape;
