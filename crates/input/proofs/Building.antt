@@ -1,15 +1,18 @@
 -- The entries for the first tokens, and one token more.
-use Rattle.std.proofs.Common.{◌≡◌, ℕ, ◌+◌, ◌-◌, ◌/◌, ◌<◌, ◌≤◌, true, false, cond, leb, List, [], ◌∷◌, ◌++◌, map, length, take, drop, MatchBool, filter, sym, refl, ap, ◌∙◌, subst, inl, inr, arith}
+use Rattle.std.proofs.Common.{◌≡◌, ℕ, ◌+◌, ◌-◌, ◌/◌, ◌<◌, ◌≤◌, Bool, true, false, cond, not, ◌&&◌, eqb, ltb, leb, Some, None, List, [], ◌∷◌, ◌++◌, map, length, take, drop, MatchBool, filter, sym, refl, ap, ◌∙◌, subst, inl, inr, arith}
 use Rattle.std.specs.List.{range_with_len}
 use Rattle.std.proofs.lemmas.List.FromFn.{filter_of_map_range_with_len_more}
 use Rattle.std.proofs.lemmas.List.{append-nil, map_push, map-id, drop-drop, length_push, length-map, take-append-drop}
 use Rattle.std.proofs.lemmas.Bool.{cases_Bool, cond-true, cond-false, and_parts, leb-true, lt-ltb, and_from}
 use Rattle.std.proofs.lemmas.Bool.Decides.{when_true, when_false}
+use Rattle.syntax_kind.specs.Trivia.{trivial}
 use Rattle.lexed_str.specs.Columns.{tokens, kind_at}
+use Rattle.input.specs.declared.token.Token.{Token}
 use Rattle.input.specs.Marks.{marks, words}
 use Rattle.input.specs.Columns.{Columns}
 use Rattle.input.specs.Pushes.{roomy, Longer, Grown}
-use Rattle.input.specs.Tokens.{solid, kept, contextual_at, joint_at}
+use Rattle.input.specs.Tokens.{solid, kept, contextual_at, adjoins, joint_at}
+use Rattle.input.specs.Seen.{kind_after, Sees, contextual_of, adjoined, joint_of}
 use Rattle.input.specs.Building.{spacious, over, Built}
 
 -- the first n values of a column are those of f at the numbers given, and the others are as before
@@ -126,14 +129,31 @@ sofar_skip bs ks ss edition old i c e h =
       long = h.long;
     }
 
+-- the mark of a token that is seen is that of its number
+adjoined_at : (ks : List ℕ) (i : ℕ) → adjoined (kind_after ks i) ≡ adjoins ks (i + 1)
+adjoined_at ks i =
+    elim (ltb (i + 1) (tokens ks)) as (λ b. adjoined (cond b (Some (kind_at ks (i + 1))) None) ≡ (b && (solid ks (i + 1) && not (eqb (kind_at ks (i + 1)) 153)))) [
+      | true ↦ refl
+      | false ↦ refl
+    ]
+
+seen_grown : (bs ks ss : List ℕ) (edition i : ℕ) (t : Token) (c d : Columns) → Sees bs ks ss i t
+    → Grown t.kind (contextual_of t edition) edition (joint_of t) c d
+    → Grown (kind_at ks i) (contextual_at bs ks ss edition i) edition (joint_at bs ks ss i) c d
+seen_grown bs ks ss edition i t c d s g = rw (s.kind, s.text, s.next, adjoined_at ks i) at g
+
 -- one turn
-pub sofar_more : (bs ks ss : List ℕ) (edition : ℕ) (old : Columns) (i : ℕ) (c d : Columns)
-    → MatchBool (solid ks i) (Grown (kind_at ks i) (contextual_at bs ks ss edition i) edition (joint_at bs ks ss i) c d) (d ≡ c)
+pub sofar_more : (bs ks ss : List ℕ) (edition : ℕ) (old : Columns) (i : ℕ) (t : Token) (c d : Columns) → Sees bs ks ss i t
+    → MatchBool (trivial t.kind) (d ≡ c) (Grown t.kind (contextual_of t edition) edition (joint_of t) c d)
     → Sofar bs ks ss edition old i c → Sofar bs ks ss edition old (i + 1) d
-sofar_more bs ks ss edition old i c d w h =
-    elim (cases_Bool (solid ks i)) [
-      | inl e ↦ sofar_one bs ks ss edition old i c d e (when_true _ _ e w) h
-      | inr e ↦ subst (Sofar bs ks ss edition old (i + 1)) (sym (when_false _ _ e w)) (sofar_skip bs ks ss edition old i c e h)
+sofar_more bs ks ss edition old i t c d s w h =
+    elim (cases_Bool (trivial t.kind)) [
+      | inl e ↦
+          subst (Sofar bs ks ss edition old (i + 1)) (sym (when_true _ _ e w))
+          (sofar_skip bs ks ss edition old i c (ap (λ k. not (trivial k)) (sym s.kind) ∙ ap not e) h)
+      | inr e ↦
+          sofar_one bs ks ss edition old i c d (ap (λ k. not (trivial k)) (sym s.kind) ∙ ap not e)
+          (seen_grown bs ks ss edition i t c d s (when_false _ _ e w)) h
     ]
 
 -- there is room for the next

@@ -7,5 +7,6 @@ pub mod Loans
 pub mod Pushes
 pub mod Questions
 pub mod Tokens
+pub mod Seen
 pub mod Joints
 pub mod Building

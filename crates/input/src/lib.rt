@@ -4,8 +4,10 @@
 mod ask;
 mod build;
 mod columns;
+mod marks;
 mod push;
 mod refusal;
+mod token;
 
 pub use build::to_input;
 pub use columns::Input;

@@ -1,13 +1,23 @@
 // Entries are put in one after the other, and the last may be marked as joint.
-ghost use Rattle.std.specs.Prelude.{◌≡◌, ◌+◌, ◌-◌, ◌*◌, ◌<◌, true, false, MatchResult};
+ghost use Rattle.std.specs.Prelude.{◌≡◌, ◌-◌, ◌<◌, Some, None, true, false, MatchResult};
 ghost use Rattle.input.specs.Columns.{columns_of, bare};
 ghost use Rattle.input.specs.Loans.{Holds, StillLent};
 ghost use Rattle.input.specs.Kinds.{eof, ident};
 ghost use Rattle.input.specs.Pushes.{answered, settled, roomy, push_refusal, pushed, Grown, mark_refusal, joined, LastMarked};
+ghost use Rattle.input.specs.Building.{spacious};
 
 use crate::columns::Input;
+use crate::marks;
 use crate::refusal::Refusal;
 use syntax_kind::{EDITION_2024, kinds as kind_numbers};
+
+// An entry to put in.
+#[derive(Clone, Copy)]
+pub(crate) struct Entry {
+    pub(crate) kind: u16,
+    pub(crate) contextual_kind: u16,
+    pub(crate) edition: u8,
+}
 
 impl<'a> Input<'a> {
     // An input with no entry yet, over the columns as they are.
@@ -36,8 +46,12 @@ impl<'a> Input<'a> {
         ensures grown { MatchResult result (λ _. Grown kind eof edition false (columns_of self.old) (columns_of self.new)) (λ _. columns_of self.new ≡ columns_of self.old) }
         ensures lent { StillLent self.old self.new }
     {
-        self.check(kind, edition)?;
-        self.put(kind, kind_numbers::EOF, edition);
+        let edition = self.admit(kind, edition)?;
+        self.put(Entry {
+            kind,
+            contextual_kind: kind_numbers::EOF,
+            edition,
+        });
         Ok(())
     }
 
@@ -48,8 +62,12 @@ impl<'a> Input<'a> {
         ensures grown { MatchResult result (λ _. Grown ident contextual_kind edition false (columns_of self.old) (columns_of self.new)) (λ _. columns_of self.new ≡ columns_of self.old) }
         ensures lent { StillLent self.old self.new }
     {
-        self.check(contextual_kind, edition)?;
-        self.put(kind_numbers::IDENT, contextual_kind, edition);
+        let edition = self.admit(contextual_kind, edition)?;
+        self.put(Entry {
+            kind: kind_numbers::IDENT,
+            contextual_kind,
+            edition,
+        });
         Ok(())
     }
 
@@ -63,14 +81,13 @@ impl<'a> Input<'a> {
         if self.len == 0 {
             return Err(Refusal::Empty);
         }
-        let last = self.len - 1;
-        self.mark(last / 64, last % 64);
+        self.mark_last();
         Ok(())
     }
 
-    // Why no such entry is put in.
-    fn check(&self, kind: u16, edition: u8) -> Result<(), Refusal>
-        ensures { result ≡ answered (push_refusal kind edition (columns_of self.now)) }
+    // The edition of this number, where an entry of that kind can be put in.
+    fn admit(&self, kind: u16, edition: u8) -> Result<u8, Refusal>
+        ensures { MatchResult result (λ e. (e ≡ edition) × (push_refusal kind edition (columns_of self.now) ≡ None)) (λ why. push_refusal kind edition (columns_of self.now) ≡ Some why) }
     {
         if edition > EDITION_2024 {
             return Err(Refusal::Edition);
@@ -78,53 +95,45 @@ impl<'a> Input<'a> {
         if kind > kind_numbers::__LAST {
             return Err(Refusal::Kind);
         }
-        if self.len >= self.kinds.len()
-            || self.len >= self.contextual_kinds.len()
-            || self.len >= self.editions.len()
-            || self.len / 64 >= self.joint.len()
-        {
+        if !self.has_room(self.len + 1) {
             return Err(Refusal::Full);
         }
-        Ok(())
+        Ok(edition)
     }
 
-    // Puts the entry into the next place of each column.
-    fn put(&mut self, kind: u16, contextual_kind: u16, edition: u8)
+    // Whether each column has room for so many entries.
+    pub(crate) fn has_room(&self, entries: usize) -> bool
+        ensures { result ≡ spacious entries (columns_of self.now) }
+    {
+        entries <= self.kinds.len()
+            && entries <= self.contextual_kinds.len()
+            && entries <= self.editions.len()
+            && entries.div_ceil(64) <= self.joint.len()
+    }
+
+    // Puts the entry into the next place of each column. It is not joint.
+    pub(crate) fn put(&mut self, entry: Entry)
         requires { roomy (columns_of self.old) ≡ true }
-        ensures columns { columns_of self.new ≡ pushed kind contextual_kind edition (columns_of self.old) }
-        ensures grown { Grown kind contextual_kind edition false (columns_of self.old) (columns_of self.new) }
+        ensures columns { columns_of self.new ≡ pushed entry.kind entry.contextual_kind entry.edition (columns_of self.old) }
+        ensures grown { Grown entry.kind entry.contextual_kind entry.edition false (columns_of self.old) (columns_of self.new) }
         ensures lent { StillLent self.old self.new }
     {
-        let len = self.len;
-        if len % 64 == 0 {
-            self.joint[len / 64] = 0;
-        }
-        self.kinds[len] = kind;
-        self.contextual_kinds[len] = contextual_kind;
-        self.editions[len] = edition;
-        self.len = len + 1;
+        let at = self.len;
+        marks::begin(self.joint, at);
+        self.kinds[at] = entry.kind;
+        self.contextual_kinds[at] = entry.contextual_kind;
+        self.editions[at] = entry.edition;
+        self.len = at + 1;
     }
 
-    // Sets the bit, which is the last entry's.
-    fn mark(&mut self, word: usize, bit: usize)
-        requires { (word * 64 + bit + 1 ≡ self.old.len) × (bit < 64) }
-        ensures columns { columns_of self.new ≡ joined (word * 64 + bit) (columns_of self.old) }
+    // Marks the last entry as joint.
+    pub(crate) fn mark_last(&mut self)
+        requires { 0 < self.old.len }
+        ensures columns { columns_of self.new ≡ joined (self.old.len - 1) (columns_of self.old) }
         ensures marked { LastMarked (columns_of self.old) (columns_of self.new) }
         ensures lent { StillLent self.old self.new }
     {
-        self.joint[word] |= 1 << bit;
-    }
-
-    // Puts the entry in, and marks it where it is joint.
-    pub(crate) fn put_marked(&mut self, kind: u16, contextual_kind: u16, edition: u8, joint: bool)
-        requires { roomy (columns_of self.old) ≡ true }
-        ensures grown { Grown kind contextual_kind edition joint (columns_of self.old) (columns_of self.new) }
-        ensures lent { StillLent self.old self.new }
-    {
-        self.put(kind, contextual_kind, edition);
-        if joint {
-            let entry = self.len - 1;
-            self.mark(entry / 64, entry % 64);
-        }
+        let last = self.len - 1;
+        marks::mark(self.joint, last);
     }
 }

@@ -1,6 +1,11 @@
 // Why an input takes no entry, or has no answer.
+ghost use Rattle.std.specs.Prelude.{◌≡◌, Some};
+ghost use Rattle.input.specs.Refusals.{number, refusal_text};
 
-#[derive(Clone, Copy)]
+use std::error::Error;
+use std::fmt;
+
+#[derive(Clone, Copy, Debug, PartialEq, Eq)]
 pub enum Refusal {
     // The edition is past the last.
     Edition,
@@ -13,3 +18,34 @@ pub enum Refusal {
     // A column has no place left.
     Full,
 }
+
+impl Refusal {
+    // The number by which the refusal is known outside.
+    pub fn number(self) -> u8
+        ensures { result ≡ number self }
+    {
+        match self {
+            Refusal::Edition => 3,
+            Refusal::Kind => 4,
+            Refusal::NotThere => 21,
+            Refusal::Empty => 30,
+            Refusal::Full => 32,
+        }
+    }
+}
+
+impl fmt::Display for Refusal {
+    ghost output = { λ why. Some (refusal_text why) };
+
+    fn fmt<W: fmt::Write>(&self, f: &mut fmt::Formatter<W>) -> fmt::Result {
+        f.write_str(match self {
+            Refusal::Edition => "no edition has this number",
+            Refusal::Kind => "no kind has this number",
+            Refusal::NotThere => "no entry has this number",
+            Refusal::Empty => "there is no entry yet",
+            Refusal::Full => "a column is full",
+        })
+    }
+}
+
+impl Error for Refusal {}

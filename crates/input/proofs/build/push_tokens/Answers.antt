@@ -8,7 +8,7 @@ use Rattle.input.proofs.build.push_tokens.Goals as goal
 
 pub loop-i-preserved : goal.loop-i-preserved
 loop-i-preserved c = (
-  sofar_more _ _ _ _ _ c.loop-i.i (columns_of c.loop-i.input) (columns_of c.push_token.new.input) c.push_token.ensures.token c.loop-i.invariant.0,
+  sofar_more _ _ _ _ _ c.loop-i.i c.at.result (columns_of c.loop-i.input) (columns_of c.push_token.new.input) c.at.ensures c.push_token.ensures.token c.loop-i.invariant.0,
   lent_then c.loop-i.input c.push_token.new.input c.loop-i.invariant.1 c.push_token.ensures.lent,
 )
 
