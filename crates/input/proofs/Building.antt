@@ -1,15 +1,14 @@
 -- The entries for the first tokens, and one token more.
-use Rattle.std.proofs.Common.{◌≡◌, ℕ, ◌+◌, ◌-◌, ◌/◌, ◌<◌, ◌≤◌, Bool, true, false, cond, not, ◌&&◌, eqb, ltb, leb, Some, None, List, [], ◌∷◌, ◌++◌, map, length, take, drop, MatchBool, filter, sym, refl, ap, ◌∙◌, subst, inl, inr, arith}
-use Rattle.std.specs.List.{range_with_len}
+use Rattle.std.proofs.Common.{◌≡◌, ℕ, ◌+◌, ◌-◌, ◌<◌, ◌≤◌, true, false, cond, not, ◌&&◌, eqb, ltb, Some, None, List, [], ◌∷◌, ◌++◌, map, length, take, drop, MatchBool, sym, refl, ap, ◌∙◌, subst, inl, inr, arith}
 use Rattle.std.proofs.lemmas.List.FromFn.{filter_of_map_range_with_len_more}
 use Rattle.std.proofs.lemmas.List.{append-nil, map_push, map-id, drop-drop, length_push, length-map, take-append-drop}
-use Rattle.std.proofs.lemmas.Bool.{cases_Bool, cond-true, cond-false, and_parts, leb-true, lt-ltb, and_from}
-use Rattle.std.proofs.lemmas.Bool.Decides.{when_true, when_false}
+use Rattle.std.proofs.lemmas.Bool.{cases_Bool}
+use Rattle.std.proofs.lemmas.Bool.Decides.{when_true, when_false, nat_tests}
 use Rattle.syntax_kind.specs.Trivia.{trivial}
 use Rattle.lexed_str.specs.Columns.{tokens, kind_at}
 use Rattle.input.specs.declared.token.Token.{Token}
 use Rattle.input.specs.Marks.{marks, words}
-use Rattle.input.specs.Columns.{Columns}
+use Rattle.input.specs.Columns.{Columns, bare}
 use Rattle.input.specs.Pushes.{roomy, Longer, Grown}
 use Rattle.input.specs.Tokens.{solid, kept, contextual_at, adjoins, joint_at}
 use Rattle.input.specs.Seen.{kind_after, Sees, contextual_of, adjoined, joint_of}
@@ -26,15 +25,10 @@ drop_further xs ys m n l e =
     let d : m + (n - m) ≡ n = omega arith in
     ap (λ k. drop k xs) (sym d) ∙ sym (drop-drop (n - m) m xs) ∙ ap (drop (n - m)) e ∙ drop-drop (n - m) m ys ∙ ap (λ k. drop k ys) d
 
-column_more : (f : ℕ → ℕ) (is old cur new : List ℕ) (n i v : ℕ) → Column f is old cur n → Longer v n cur new → v ≡ f i
-    → Column f (is ++ i ∷ []) old new (n + 1)
-column_more f is old cur new n i v h l e =
+column_more : (f : ℕ → ℕ) (is old cur new : List ℕ) (n i : ℕ) → Column f is old cur n → Longer (f i) n cur new → Column f (is ++ i ∷ []) old new (n + 1)
+column_more f is old cur new n i h l =
     record {
-      front =
-          l.front
-          ∙ ap (λ xs. xs ++ v ∷ []) h.front
-          ∙ ap (λ x. map f is ++ x ∷ []) e
-          ∙ sym (map_push f is i);
+      front = l.front ∙ ap (λ xs. xs ++ f i ∷ []) h.front ∙ sym (map_push f is i);
       rest = l.rest ∙ drop_further cur old n (n + 1) (omega arith) h.rest;
       long = l.long ∙ h.long;
     }
@@ -60,32 +54,28 @@ pub record Sofar (bs ks ss : List ℕ) (edition : ℕ) (old : Columns) (i : ℕ)
 column_none : (f : ℕ → ℕ) (old : List ℕ) → Column f [] old old 0
 column_none f old = record { front = refl; rest = refl; long = refl }
 
-pub sofar_none : (bs ks ss : List ℕ) (edition : ℕ) (old : Columns) → old.len ≡ 0 → Sofar bs ks ss edition old 0 old
-sofar_none bs ks ss edition old e =
-    let C : (ℕ → ℕ) → List ℕ → Type 0 = λ f xs. Column f [] xs xs old.len in
+pub sofar_none : (bs ks ss : List ℕ) (edition : ℕ) (old : Columns) → Sofar bs ks ss edition old 0 (bare old.kinds old.joint old.contextual old.editions)
+sofar_none bs ks ss edition old =
     record {
-      len = e;
+      len = refl;
       few = omega arith;
-      kinds = subst (Column (kind_at ks) [] old.kinds old.kinds) (sym e) (column_none (kind_at ks) old.kinds);
-      contextual = subst (Column (contextual_at bs ks ss edition) [] old.contextual old.contextual) (sym e) (column_none (contextual_at bs ks ss edition) old.contextual);
-      editions = subst (Column (λ _. edition) [] old.editions old.editions) (sym e) (column_none (λ _. edition) old.editions);
-      marks = ap (marks old.joint) e;
+      kinds = column_none (kind_at ks) old.kinds;
+      contextual = column_none (contextual_at bs ks ss edition) old.contextual;
+      editions = column_none (λ _. edition) old.editions;
+      marks = refl;
       rest = refl;
       long = refl;
     }
 
 -- the numbers of one token more
 kept_more : (ks : List ℕ) (i : ℕ) → kept ks (i + 1) ≡ kept ks i ++ cond (solid ks i) (i ∷ []) []
-kept_more ks i =
-    ap (filter (solid ks)) (sym (map-id (range_with_len 0 (i + 1))))
-    ∙ filter_of_map_range_with_len_more (solid ks) (λ x. x) 0 i i (omega arith)
-    ∙ ap (λ xs. filter (solid ks) xs ++ cond (solid ks i) (i ∷ []) []) (map-id (range_with_len 0 i))
+kept_more ks i = simp map-id at (filter_of_map_range_with_len_more (solid ks) (λ x. x) 0 i i (omega arith))
 
 kept_one : (ks : List ℕ) (i : ℕ) → solid ks i ≡ true → kept ks (i + 1) ≡ kept ks i ++ i ∷ []
-kept_one ks i e = kept_more ks i ∙ ap (λ xs. kept ks i ++ xs) (cond-true (solid ks i) (i ∷ []) [] e)
+kept_one ks i e = rw e at (kept_more ks i)
 
 kept_none : (ks : List ℕ) (i : ℕ) → solid ks i ≡ false → kept ks (i + 1) ≡ kept ks i
-kept_none ks i e = kept_more ks i ∙ ap (λ xs. kept ks i ++ xs) (cond-false (solid ks i) (i ∷ []) [] e) ∙ append-nil (kept ks i)
+kept_none ks i e = rw (e, append-nil) at (kept_more ks i)
 
 -- a token that is no trivia
 sofar_one : (bs ks ss : List ℕ) (edition : ℕ) (old : Columns) (i : ℕ) (c d : Columns) → solid ks i ≡ true
@@ -94,19 +84,13 @@ sofar_one : (bs ks ss : List ℕ) (edition : ℕ) (old : Columns) (i : ℕ) (c d
 sofar_one bs ks ss edition old i c d e g h =
     let is = kept ks i in
     let one = kept_one ks i e in
-    let col : (f : ℕ → ℕ) (old new : List ℕ) → Column f (is ++ i ∷ []) old new (c.len + 1) → Column f (kept ks (i + 1)) old new d.len =
-    λ f old new k. subst (Column f (kept ks (i + 1)) old new) (sym g.len) (subst (λ js. Column f js old new (c.len + 1)) (sym one) k) in
     record {
-      len = g.len ∙ ap (λ n. n + 1) h.len ∙ sym (length_push is i) ∙ ap length (sym one);
+      len = rw (g.len, one, length_push, h.len) refl;
       few = omega (arith, g.len, h.few);
-      kinds = col (kind_at ks) old.kinds d.kinds (column_more (kind_at ks) is old.kinds c.kinds d.kinds c.len i (kind_at ks i) h.kinds g.kinds refl);
-      contextual = col (contextual_at bs ks ss edition) old.contextual d.contextual (column_more (contextual_at bs ks ss edition) is old.contextual c.contextual d.contextual c.len i (contextual_at bs ks ss edition i) h.contextual g.contextual refl);
-      editions = col (λ _. edition) old.editions d.editions (column_more (λ _. edition) is old.editions c.editions d.editions c.len i edition h.editions g.editions refl);
-      marks =
-          g.marks
-          ∙ ap (λ ms. ms ++ joint_at bs ks ss i ∷ []) h.marks
-          ∙ sym (map_push (joint_at bs ks ss) is i)
-          ∙ ap (map (joint_at bs ks ss)) (sym one);
+      kinds = rw (g.len, one) (column_more (kind_at ks) is _ _ _ _ i h.kinds g.kinds);
+      contextual = rw (g.len, one) (column_more (contextual_at bs ks ss edition) is _ _ _ _ i h.contextual g.contextual);
+      editions = rw (g.len, one) (column_more (λ _. edition) is _ _ _ _ i h.editions g.editions);
+      marks = rw (one, map_push, ← h.marks) g.marks;
       rest = g.rest ∙ drop_further c.joint old.joint (words c.len) (words d.len) (omega (arith, g.len)) h.rest;
       long = g.long ∙ h.long;
     }
@@ -116,15 +100,13 @@ sofar_skip : (bs ks ss : List ℕ) (edition : ℕ) (old : Columns) (i : ℕ) (c 
     → Sofar bs ks ss edition old i c → Sofar bs ks ss edition old (i + 1) c
 sofar_skip bs ks ss edition old i c e h =
     let none = kept_none ks i e in
-    let col : (f : ℕ → ℕ) (old new : List ℕ) → Column f (kept ks i) old new c.len → Column f (kept ks (i + 1)) old new c.len =
-    λ f old new k. subst (λ js. Column f js old new c.len) (sym none) k in
     record {
-      len = h.len ∙ ap length (sym none);
+      len = rw none h.len;
       few = omega (arith, h.few);
-      kinds = col (kind_at ks) old.kinds c.kinds h.kinds;
-      contextual = col (contextual_at bs ks ss edition) old.contextual c.contextual h.contextual;
-      editions = col (λ _. edition) old.editions c.editions h.editions;
-      marks = h.marks ∙ ap (map (joint_at bs ks ss)) (sym none);
+      kinds = rw none h.kinds;
+      contextual = rw none h.contextual;
+      editions = rw none h.editions;
+      marks = rw none h.marks;
       rest = h.rest;
       long = h.long;
     }
@@ -159,19 +141,7 @@ sofar_more bs ks ss edition old i t c d s w h =
 -- there is room for the next
 pub sofar_roomy : (bs ks ss : List ℕ) (edition : ℕ) (old : Columns) (i n : ℕ) (c : Columns) → i < n → spacious n old ≡ true
     → Sofar bs ks ss edition old i c → roomy c ≡ true
-sofar_roomy bs ks ss edition old i n c l s h =
-    let a = and_parts (leb n (length old.kinds)) _ s in
-    let b = and_parts (leb n (length old.contextual)) _ a.1 in
-    let d = and_parts (leb n (length old.editions)) _ b.1 in
-    let k = leb-true n (length old.kinds) a.0 in
-    let x = leb-true n (length old.contextual) b.0 in
-    let e = leb-true n (length old.editions) d.0 in
-    let j = leb-true (words n) (length old.joint) d.1 in
-    let few = h.few in
-    and_from _ _ (lt-ltb c.len (length c.kinds) (omega (arith, h.kinds.long)))
-    (and_from _ _ (lt-ltb c.len (length c.contextual) (omega (arith, h.contextual.long)))
-    (and_from _ _ (lt-ltb c.len (length c.editions) (omega (arith, h.editions.long)))
-    (lt-ltb (c.len / 64) (length c.joint) (omega (arith, h.long)))))
+sofar_roomy bs ks ss edition old i n c l s h = grind (arith, nat_tests, h.few, h.kinds.long, h.contextual.long, h.editions.long, h.long)
 
 -- all tokens
 pub sofar_built : (bs ks ss : List ℕ) (edition : ℕ) (old c : Columns) → Sofar bs ks ss edition old (tokens ks) c → Built bs ks ss edition old c

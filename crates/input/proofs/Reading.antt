@@ -1,10 +1,10 @@
 -- What the entries for all tokens are, in the words of the law.
-use Rattle.std.proofs.Common.{◌≡◌, ℕ, ◌+◌, ◌-◌, ◌<◌, ◌≤◌, Bool, true, false, cond, not, ◌&&◌, eqb, ltb, ◌⊎◌, List, [], ◌∷◌, ◌++◌, map, length, get_or, take, Decides, filter, sym, refl, ap, ◌∙◌, inl, inr, arith}
+use Rattle.std.proofs.Common.{◌≡◌, ℕ, ◌+◌, ◌-◌, ◌<◌, ◌≤◌, Bool, false, not, ◌&&◌, eqb, ◌⊎◌, List, [], ◌∷◌, ◌++◌, map, length, get_or, take, Decides, filter, sym, refl, ap, ◌∙◌, inl, inr, arith}
 use Rattle.std.specs.List.{range_with_len}
 use Rattle.std.proofs.lemmas.List.FromFn.{fill_by_all, get_or-map-range_with_len}
 use Rattle.std.proofs.lemmas.List.{take_more, take_all, get_or_push, get_or_past, length_push, get_or-map, get_or-take, length-take-le}
-use Rattle.std.proofs.lemmas.Bool.{cases_Bool, cases_eq, eqb-true, eq-eqb, both_ways}
-use Rattle.std.proofs.lemmas.Bool.Decides.{Decides-at, Decides-like, Decides-not, Decides-and, Decides-or, Decides-eqb, Decides-ltb, nat_tests}
+use Rattle.std.proofs.lemmas.Bool.{cases_Bool, cases_eq, eqb-true, eq-eqb}
+use Rattle.std.proofs.lemmas.Bool.Decides.{Decides-at, nat_tests}
 use Rattle.syntax_kind.specs.Trivia.{trivial}
 use Rattle.lexed_str.specs.Columns.{tokens, kind_at}
 use Rattle.lexed_str.specs.Reading.{texts}
@@ -19,56 +19,39 @@ dotted : (text : List ℕ) → Decides (ends_in_dot text) (Dotted text)
 dotted text = (
   (λ e.
       let last = eqb-true (get_or text (length text - 1) 0) 46 e in
-      let some : length text - 1 < length text =
-      elim (cases_eq (length text) 0) [
-        | inl z ↦ absurd (omega (arith, last, get_or_past text (length text - 1) 0 (omega arith)))
-        | inr ne ↦ omega arith
-      ] in
+      let some : 0 < length text = grind (arith, get_or_past text (length text - 1) 0) in
       let back : length text - 1 + 1 ≡ length text = omega arith in (
         take (length text - 1) text,
         sym (take_all (length text) text (omega arith))
             ∙ ap (λ n. take n text) (sym back)
-            ∙ take_more text (length text - 1) 0 some
+            ∙ take_more text (length text - 1) 0 (omega arith)
             ∙ ap (λ x. take (length text - 1) text ++ x ∷ []) last,
       )),
   (λ d.
       let n : length text ≡ length d.0 + 1 = ap length d.1 ∙ length_push d.0 46 in
-      let last : length d.0 ≡ length text - 1 = omega arith in
-      eq-eqb (get_or text (length text - 1) 0) 46 (ap (λ xs. get_or xs (length text - 1) 0) d.1 ∙ get_or_push d.0 46 0 (length text - 1) last)),
+      eq-eqb (get_or text (length text - 1) 0) 46 (ap (λ xs. get_or xs (length text - 1) 0) d.1 ∙ get_or_push d.0 46 0 (length text - 1) (omega arith))),
 )
-
--- a choice between two tests
-decides_cond : {B X Y : Type 0} (b x y : Bool) → Decides b B → Decides x X → Decides y Y → Decides (cond b x y) ((B × X) ⊎ ((B → ⊥) × Y))
-decides_cond true x y db dx dy =
-    ((λ e. inl (db.0 refl, dx.0 e)), (λ h. elim h [ inl p ↦ dx.1 p.1 | inr p ↦ absurd (p.0 (db.0 refl)) ]))
-decides_cond false x y db dx dy =
-    ((λ e. inr ((λ b. both_ways false refl (db.1 b)), dy.0 e)), (λ h. elim h [ inl p ↦ absurd (both_ways false refl (db.1 p.0)) | inr p ↦ dy.1 p.1 ]))
 
 -- what parts one token from another
 parting : (k : ℕ) → Decides (not (trivial k) && not (eqb k 153)) (Parting k → ⊥)
-parting k =
-    Decides-like (not (trivial k) && not (eqb k 153))
-    (λ p q. elim q [ inl a ↦ p.0 (inl a) | inr r ↦ elim r [ inl b ↦ p.0 (inr b) | inr d ↦ p.1 d ] ])
-    (λ n. ((λ t. elim t [ inl a ↦ n (inl a) | inr b ↦ n (inr (inl b)) ]), (λ d. n (inr (inr d)))))
-    (Decides-and (not (trivial k)) (not (eqb k 153))
-    (Decides-not (trivial k) (Decides-or (eqb k 159) (eqb k 150) (Decides-eqb k 159) (Decides-eqb k 150)))
-    (Decides-not (eqb k 153) (Decides-eqb k 153)))
+parting k = ((λ e p. grind (arith, nat_tests)), (λ n. grind (arith, nat_tests)))
 
 -- which tokens are joint
 joint : (bs ks ss : List ℕ) (i : ℕ) → Decides (joint_at bs ks ss i) (Fraction bs ks ss i ⊎ Adjoined ks i)
 joint bs ks ss i =
     let k = kind_at ks i in
-    let d = ends_in_dot (texts bs ss i (i + 1)) in
-    let next = not (trivial (kind_at ks (i + 1))) && not (eqb (kind_at ks (i + 1)) 153) in
-    Decides-like (joint_at bs ks ss i)
-    (λ h. elim h [ inl p ↦ inl (p.0, p.1) | inr p ↦ inr (p.0, p.1.0, p.1.1.0, p.1.1.1) ])
-    (λ h. elim h [ inl p ↦ inl (p.0, p.1) | inr p ↦ inr (p.0, (p.1, (p.2, p.3))) ])
-    (decides_cond (eqb k 147) (not d) (not (eqb k 153) && (ltb (i + 1) (tokens ks) && next))
-    (Decides-eqb k 147)
-    (Decides-not d (dotted (texts bs ss i (i + 1))))
-    (Decides-and (not (eqb k 153)) (ltb (i + 1) (tokens ks) && next)
-    (Decides-not (eqb k 153) (Decides-eqb k 153))
-    (Decides-and (ltb (i + 1) (tokens ks)) next (Decides-ltb (i + 1) (tokens ks)) (parting (kind_at ks (i + 1))))))
+    let d = dotted (texts bs ss i (i + 1)) in
+    let p = parting (kind_at ks (i + 1)) in
+    (
+      (λ e. elim (cases_eq k 147) [
+        | inl f ↦ inl (f, (λ h. grind (arith, nat_tests, d.1 h)))
+        | inr n ↦ inr (n, (λ h. grind (arith, nat_tests)), grind (arith, nat_tests), p.0 (grind (arith, nat_tests)))
+      ]),
+      (λ h. elim h [
+        | inl a ↦ grind (arith, nat_tests, a.1, d.0)
+        | inr a ↦ grind (arith, nat_tests, p.1 a.3)
+      ]),
+    )
 
 -- no identifier is
 ident_apart : (bs ks ss : List ℕ) (i : ℕ) → kind_at ks i ≡ 153 → joint_at bs ks ss i ≡ false

@@ -1,4 +1,4 @@
-use Rattle.std.proofs.Common.{◌≡◌, ◌-◌, MatchBool, subst}
+use Rattle.std.proofs.Common.{subst}
 use Rattle.input.specs.Columns.{columns_of}
 use Rattle.input.specs.Pushes.{LastMarked}
 use Rattle.input.proofs.Kept.{grown_marked}

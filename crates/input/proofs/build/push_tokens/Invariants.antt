@@ -5,5 +5,7 @@ use Rattle.input.proofs.build.push_tokens.Given as goal
 
 abbrev pub invariant-loop-i : goal.invariant-loop-i
 invariant-loop-i l =
-    Sofar l.lexed.script.bytes.now l.lexed.kinds.now l.lexed.starts.now l.edition (columns_of l.initial.input) l.i (columns_of l.input)
-    × StillLent l.initial.input l.input
+    record {
+      tokens : Sofar l.lexed.script.bytes.now l.lexed.kinds.now l.lexed.starts.now l.edition (columns_of l.fn.input) l.i (columns_of l.input);
+      lent : StillLent l.fn.input l.input
+    }

@@ -1,4 +1,4 @@
-use Rattle.std.proofs.Common.{◌≡◌, ◌-◌, ◌+◌, arith}
+use Rattle.std.proofs.Common.{◌-◌, arith}
 use Rattle.input.specs.Columns.{columns_of}
 use Rattle.input.proofs.Kept.{joined_fits, joined_marks}
 use Rattle.input.proofs.columns.Input.mark_last.Goals as goal

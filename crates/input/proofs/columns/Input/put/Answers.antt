@@ -1,4 +1,3 @@
-use Rattle.std.proofs.Common.{◌≡◌}
 use Rattle.input.specs.Columns.{columns_of}
 use Rattle.input.proofs.Kept.{pushed_fits, pushed_grown}
 use Rattle.input.proofs.columns.Input.put.Goals as goal
