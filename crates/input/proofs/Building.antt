@@ -4,6 +4,8 @@ use Rattle.std.proofs.lemmas.List.FromFn.{filter_of_map_range_with_len_more}
 use Rattle.std.proofs.lemmas.List.{append-nil, map_push, map-id, drop-drop, length_push, length-map, take-append-drop}
 use Rattle.std.proofs.lemmas.Bool.{cases_Bool}
 use Rattle.std.proofs.lemmas.Bool.Decides.{when_true, when_false, nat_tests}
+use Rattle.syntax_kind.specs.Editions.{edition_number}
+use Rattle.syntax_kind.specs.declared.editions.Edition.{Edition}
 use Rattle.syntax_kind.specs.Trivia.{trivial}
 use Rattle.lexed_str.specs.Columns.{tokens, kind_at}
 use Rattle.input.specs.declared.token.Token.{Token}
@@ -119,22 +121,22 @@ adjoined_at ks i =
       | false ↦ refl
     ]
 
-seen_grown : (bs ks ss : List ℕ) (edition i : ℕ) (t : Token) (c d : Columns) → Sees bs ks ss i t
-    → Grown t.kind (contextual_of t edition) edition (joint_of t) c d
-    → Grown (kind_at ks i) (contextual_at bs ks ss edition i) edition (joint_at bs ks ss i) c d
+seen_grown : (bs ks ss : List ℕ) (edition : Edition) (i : ℕ) (t : Token) (c d : Columns) → Sees bs ks ss i t
+    → Grown t.kind (contextual_of t edition) (edition_number edition) (joint_of t) c d
+    → Grown (kind_at ks i) (contextual_at bs ks ss (edition_number edition) i) (edition_number edition) (joint_at bs ks ss i) c d
 seen_grown bs ks ss edition i t c d s g = rw (s.kind, s.text, s.next, adjoined_at ks i) at g
 
 -- one turn
-pub sofar_more : (bs ks ss : List ℕ) (edition : ℕ) (old : Columns) (i : ℕ) (t : Token) (c d : Columns) → Sees bs ks ss i t
-    → MatchBool (trivial t.kind) (d ≡ c) (Grown t.kind (contextual_of t edition) edition (joint_of t) c d)
-    → Sofar bs ks ss edition old i c → Sofar bs ks ss edition old (i + 1) d
+pub sofar_more : (bs ks ss : List ℕ) (edition : Edition) (old : Columns) (i : ℕ) (t : Token) (c d : Columns) → Sees bs ks ss i t
+    → MatchBool (trivial t.kind) (d ≡ c) (Grown t.kind (contextual_of t edition) (edition_number edition) (joint_of t) c d)
+    → Sofar bs ks ss (edition_number edition) old i c → Sofar bs ks ss (edition_number edition) old (i + 1) d
 sofar_more bs ks ss edition old i t c d s w h =
     elim (cases_Bool (trivial t.kind)) [
       | inl e ↦
-          subst (Sofar bs ks ss edition old (i + 1)) (sym (when_true _ _ e w))
-          (sofar_skip bs ks ss edition old i c (ap (λ k. not (trivial k)) (sym s.kind) ∙ ap not e) h)
+          subst (Sofar bs ks ss (edition_number edition) old (i + 1)) (sym (when_true _ _ e w))
+          (sofar_skip bs ks ss (edition_number edition) old i c (ap (λ k. not (trivial k)) (sym s.kind) ∙ ap not e) h)
       | inr e ↦
-          sofar_one bs ks ss edition old i c d (ap (λ k. not (trivial k)) (sym s.kind) ∙ ap not e)
+          sofar_one bs ks ss (edition_number edition) old i c d (ap (λ k. not (trivial k)) (sym s.kind) ∙ ap not e)
           (seen_grown bs ks ss edition i t c d s (when_false _ _ e w)) h
     ]
 

@@ -41,8 +41,7 @@ joint : (bs ks ss : List ℕ) (i : ℕ) → Decides (joint_at bs ks ss i) (Fract
 joint bs ks ss i =
     let k = kind_at ks i in
     let d = dotted (texts bs ss i (i + 1)) in
-    let p = parting (kind_at ks (i + 1)) in
-    (
+    let p = parting (kind_at ks (i + 1)) in (
       (λ e. elim (cases_eq k 147) [
         | inl f ↦ inl (f, (λ h. grind (arith, nat_tests, d.1 h)))
         | inr n ↦ inr (n, (λ h. grind (arith, nat_tests)), grind (arith, nat_tests), p.0 (grind (arith, nat_tests)))

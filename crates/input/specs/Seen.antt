@@ -1,7 +1,9 @@
 -- What an input takes from a token by itself: from its kind, its text and the kind of the token behind it.
 use Rattle.std.specs.Prelude.{◌≡◌, ℕ, ◌+◌, Bool, false, cond, not, ◌&&◌, List, Some, None, Option, ◌==◌, nat_lt}
 use Rattle.syntax_kind.specs.Trivia.{trivial}
+use Rattle.syntax_kind.specs.Editions.{edition_number}
 use Rattle.syntax_kind.specs.Keywords.{contextual_answer}
+use Rattle.syntax_kind.specs.declared.editions.Edition.{Edition}
 use Rattle.lexed_str.specs.Columns.{tokens, kind_at}
 use Rattle.lexed_str.specs.Reading.{texts}
 use Rattle.input.specs.declared.token.Token.{Token}
@@ -19,8 +21,8 @@ pub record Sees (bs ks ss : List ℕ) (i : ℕ) (t : Token) : Type 0 where
   pub next : t.next ≡ kind_after ks i
 
 -- the token's contextual kind: the end's where it is no identifier
-abbrev pub contextual_of : Token → ℕ → ℕ
-contextual_of t edition = cond (t.kind == ident) (keyword_or (contextual_answer t.text.now edition)) eof
+abbrev pub contextual_of : Token → Edition → ℕ
+contextual_of t edition = cond (t.kind == ident) (keyword_or (contextual_answer t.text.now (edition_number edition))) eof
 
 -- a token of this kind behind parts nothing: there is one, and it is neither trivia nor an identifier
 abbrev pub adjoined : Option ℕ → Bool

@@ -1,5 +1,6 @@
 // The input of a script's tokens.
 ghost use Rattle.std.specs.Prelude.{◌≡◌, true, MatchBool, MatchResult, OnOk};
+ghost use Rattle.syntax_kind.specs.Editions.{edition_number};
 ghost use Rattle.syntax_kind.specs.Trivia.{trivial};
 ghost use Rattle.lexed_str.specs.Columns.{tokens};
 ghost use Rattle.input.specs.Columns.{columns_of};
@@ -14,7 +15,7 @@ use crate::push::Entry;
 use crate::refusal::Refusal;
 use crate::token::Token;
 use lexed_str::LexedStr;
-use syntax_kind::EDITION_2024;
+use syntax_kind::Edition;
 
 // Makes the input anew: an entry for each token that is no trivia, whatever it held before.
 pub fn to_input(lexed: &LexedStr, edition: u8, input: &mut Input) -> Result<(), Refusal>
@@ -23,9 +24,7 @@ pub fn to_input(lexed: &LexedStr, edition: u8, input: &mut Input) -> Result<(), 
     ensures reads { OnOk result (Reads lexed.now.script.bytes.now lexed.now.kinds.now lexed.now.starts.now (columns_of input.new)) }
     ensures lent { StillLent input.old input.new }
 {
-    if edition > EDITION_2024 {
-        return Err(Refusal::Edition);
-    }
+    let edition = Edition::try_from(edition)?;
     if !input.has_room(lexed.len()) {
         return Err(Refusal::Full);
     }
@@ -34,9 +33,9 @@ pub fn to_input(lexed: &LexedStr, edition: u8, input: &mut Input) -> Result<(), 
 }
 
 // Puts the tokens in, one after the other.
-fn push_tokens(input: &mut Input, lexed: &LexedStr, edition: u8)
+fn push_tokens(input: &mut Input, lexed: &LexedStr, edition: Edition)
     requires { spacious (tokens lexed.now.kinds.now) (columns_of input.old) ≡ true }
-    ensures built { Built lexed.now.script.bytes.now lexed.now.kinds.now lexed.now.starts.now edition (columns_of input.old) (columns_of input.new) }
+    ensures built { Built lexed.now.script.bytes.now lexed.now.kinds.now lexed.now.starts.now (edition_number edition) (columns_of input.old) (columns_of input.new) }
     ensures reads { Reads lexed.now.script.bytes.now lexed.now.kinds.now lexed.now.starts.now (columns_of input.new) }
     ensures lent { StillLent input.old input.new }
 {
@@ -47,9 +46,9 @@ fn push_tokens(input: &mut Input, lexed: &LexedStr, edition: u8)
 }
 
 // Puts the token in, unless it is trivia.
-fn push_token(input: &mut Input, token: &Token, edition: u8)
+fn push_token(input: &mut Input, token: &Token, edition: Edition)
     requires { roomy (columns_of input.old) ≡ true }
-    ensures token { MatchBool (trivial token.now.kind) (columns_of input.new ≡ columns_of input.old) (Grown token.now.kind (contextual_of token.now edition) edition (joint_of token.now) (columns_of input.old) (columns_of input.new)) }
+    ensures token { MatchBool (trivial token.now.kind) (columns_of input.new ≡ columns_of input.old) (Grown token.now.kind (contextual_of token.now edition) (edition_number edition) (joint_of token.now) (columns_of input.old) (columns_of input.new)) }
     ensures lent { StillLent input.old input.new }
 {
     if token.is_trivial() {

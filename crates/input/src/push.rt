@@ -1,5 +1,6 @@
 // Entries are put in one after the other, and the last may be marked as joint.
 ghost use Rattle.std.specs.Prelude.{◌≡◌, ◌-◌, ◌<◌, Some, None, true, false, MatchResult};
+ghost use Rattle.syntax_kind.specs.Editions.{edition_number};
 ghost use Rattle.input.specs.Columns.{columns_of, bare};
 ghost use Rattle.input.specs.Loans.{Holds, StillLent};
 ghost use Rattle.input.specs.Kinds.{eof, ident};
@@ -9,14 +10,14 @@ ghost use Rattle.input.specs.Building.{spacious};
 use crate::columns::Input;
 use crate::marks;
 use crate::refusal::Refusal;
-use syntax_kind::{EDITION_2024, kinds as kind_numbers};
+use syntax_kind::{Edition, kinds as kind_numbers};
 
 // An entry to put in.
 #[derive(Clone, Copy)]
 pub(crate) struct Entry {
     pub(crate) kind: u16,
     pub(crate) contextual_kind: u16,
-    pub(crate) edition: u8,
+    pub(crate) edition: Edition,
 }
 
 impl<'a> Input<'a> {
@@ -86,12 +87,10 @@ impl<'a> Input<'a> {
     }
 
     // The edition of this number, where an entry of that kind can be put in.
-    fn admit(&self, kind: u16, edition: u8) -> Result<u8, Refusal>
-        ensures { MatchResult result (λ e. (e ≡ edition) × (push_refusal kind edition (columns_of self.now) ≡ None)) (λ why. push_refusal kind edition (columns_of self.now) ≡ Some why) }
+    fn admit(&self, kind: u16, edition: u8) -> Result<Edition, Refusal>
+        ensures { MatchResult result (λ e. (edition_number e ≡ edition) × (push_refusal kind edition (columns_of self.now) ≡ None)) (λ why. push_refusal kind edition (columns_of self.now) ≡ Some why) }
     {
-        if edition > EDITION_2024 {
-            return Err(Refusal::Edition);
-        }
+        let edition = Edition::try_from(edition)?;
         if kind > kind_numbers::__LAST {
             return Err(Refusal::Kind);
         }
@@ -114,15 +113,15 @@ impl<'a> Input<'a> {
     // Puts the entry into the next place of each column. It is not joint.
     pub(crate) fn put(&mut self, entry: Entry)
         requires { roomy (columns_of self.old) ≡ true }
-        ensures columns { columns_of self.new ≡ pushed entry.kind entry.contextual_kind entry.edition (columns_of self.old) }
-        ensures grown { Grown entry.kind entry.contextual_kind entry.edition false (columns_of self.old) (columns_of self.new) }
+        ensures columns { columns_of self.new ≡ pushed entry.kind entry.contextual_kind (edition_number entry.edition) (columns_of self.old) }
+        ensures grown { Grown entry.kind entry.contextual_kind (edition_number entry.edition) false (columns_of self.old) (columns_of self.new) }
         ensures lent { StillLent self.old self.new }
     {
         let at = self.len;
         marks::begin(self.joint, at);
         self.kinds[at] = entry.kind;
         self.contextual_kinds[at] = entry.contextual_kind;
-        self.editions[at] = entry.edition;
+        self.editions[at] = entry.edition.number();
         self.len = at + 1;
     }
 

@@ -4,6 +4,7 @@ ghost use Rattle.input.specs.Refusals.{number, refusal_text};
 
 use std::error::Error;
 use std::fmt;
+use syntax_kind::UnknownEdition;
 
 #[derive(Clone, Copy, Debug, PartialEq, Eq)]
 pub enum Refusal {
@@ -49,3 +50,13 @@ impl fmt::Display for Refusal {
 }
 
 impl Error for Refusal {}
+
+impl From<UnknownEdition> for Refusal {
+    ghost use Rattle.input.specs.declared.refusal.Refusal.TheVariants as refusal;
+
+    ghost from_gives = { λ _ why. why ≡ refusal.Edition };
+
+    fn from(_unknown: UnknownEdition) -> Refusal {
+        Refusal::Edition
+    }
+}

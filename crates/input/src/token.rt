@@ -5,7 +5,7 @@ ghost use Rattle.lexed_str.specs.Columns.{tokens};
 ghost use Rattle.input.specs.Seen.{Sees, contextual_of, joint_of};
 
 use lexed_str::LexedStr;
-use syntax_kind::{from_contextual_keyword, is_trivia, kinds as kind_numbers};
+use syntax_kind::{Edition, is_trivia, kinds as kind_numbers};
 
 // Its kind, its text, and the kind of the token behind it, if there is one.
 #[derive(Clone, Copy)]
@@ -38,16 +38,15 @@ impl<'a> Token<'a> {
     }
 
     // The keyword that an identifier is where the grammar asks for it.
-    pub(crate) fn contextual_kind(&self, edition: u8) -> u16
+    pub(crate) fn contextual_kind(&self, edition: Edition) -> u16
         ensures { result ≡ contextual_of self.now edition }
     {
         if self.kind != kind_numbers::IDENT {
             return kind_numbers::EOF;
         }
-        match from_contextual_keyword(self.text, edition) {
-            Ok(Some(kind)) => kind,
-            Ok(None) | Err(_) => kind_numbers::IDENT,
-        }
+        edition
+            .contextual_keyword(self.text)
+            .unwrap_or(kind_numbers::IDENT)
     }
 
     // Whether nothing parts it from the next; of a fractional number, whether it has its fraction.
