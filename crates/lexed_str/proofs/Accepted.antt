@@ -137,11 +137,8 @@ columns_fit_lem bs ks ss es c =
     (lt-ltb (token_at es k) n (c.names k l))
     (le-leb (token_at es (k - 1)) (token_at es k) (c.ascends (k - 1) k (omega arith) l)))))
 
--- accepted columns have the property, and columns that have it are accepted
+-- accepted columns have the property
 pub accepted_columns : (bs ks ss : List ℕ) (es : List LexError) → accepts bs ks ss es ≡ true → Columns bs ks ss es
 accepted_columns bs ks ss es e =
     let both = and_parts (kinds_known ks) (columns_fit bs ks ss es) e in
     columns_from bs ks ss es (known_each ks both.0) both.1
-
-pub columns_accepted : (bs ks ss : List ℕ) (es : List LexError) → Columns bs ks ss es → accepts bs ks ss es ≡ true
-columns_accepted bs ks ss es c = and_from (kinds_known ks) (columns_fit bs ks ss es) (each_known ks c.known) (columns_fit_lem bs ks ss es c)

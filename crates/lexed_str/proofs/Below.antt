@@ -1,11 +1,7 @@
 -- A test of each number below a bound. Assumes nothing.
-use Rattle.std.proofs.Common.{◌≡◌, ℕ, zero, suc, ◌+◌, ◌<◌, Bool, true, false, sym, refl, ap, ◌∙◌, ⊎_elim, add-one, arith}
+use Rattle.std.proofs.Common.{◌≡◌, ℕ, zero, suc, ◌<◌, Bool, true, false, sym, refl, ap, ◌∙◌, ⊎_elim, arith}
 use Rattle.std.proofs.lemmas.Bool.{and_from, and_left, and_right, and_parts, and_cases, cases_eq, cases_Bool, false≢true}
 use Rattle.lexed_str.specs.Offering.{all_below}
-
--- a loop's turn: the test holds of one number more, or fails, and then not all pass
-pub below_more : (test : ℕ → Bool) (i : ℕ) → all_below i test ≡ true → true ≡ test i → all_below (i + 1) test ≡ true
-below_more test i before here = rw add-one (and_from (test i) (all_below i test) (sym here) before)
 
 fails : (test : ℕ → Bool) (n i : ℕ) → i < n → test i ≡ false → all_below n test ≡ false
 fails test zero i l e = absurd (omega arith)

@@ -1,5 +1,5 @@
 -- The first error of a token, by the search among the records. Assumes nothing.
-use Rattle.std.proofs.Common.{◌≡◌, ℕ, suc, ◌<◌, Bool, true, false, cond, eqb, List, [], ◌∷◌, map, length, get_or, IfSome, Some, None, Option, sym, refl, ap, ◌∙◌, subst, arith}
+use Rattle.std.proofs.Common.{◌≡◌, ℕ, ◌<◌, Bool, true, false, cond, eqb, List, [], ◌∷◌, map, get_or, Some, None, Option, sym, refl, ap, ◌∙◌, arith}
 use lib.ListN.{length-map}
 use Rattle.std.proofs.lemmas.List.{get_or-map}
 use Rattle.script.specs.Admission.{admits}
@@ -35,18 +35,6 @@ first_code : (n : ℕ) (es : List LexError) → first_of (errors_of n es) ≡ co
 first_code n [] = refl
 first_code n (e ∷ es) = code_by n e es (eqb e.token n) (first_code n es)
 
-within_later : (n : ℕ) (o : Option ℕ) → IfSome o (λ k. k < n) → IfSome (later o) (λ k. k < suc n)
-within_later n None h = tt
-within_later n (Some k) h = omega arith
-
-within_by : (n : ℕ) (o : Option ℕ) (b : Bool) → IfSome o (λ k. k < n) → IfSome (cond b (Some 0) (later o)) (λ k. k < suc n)
-within_by n o true h = omega arith
-within_by n o false h = within_later n o h
-
-first_within : (n : ℕ) (es : List LexError) → IfSome (first n (numbers es)) (λ k. k < length es)
-first_within n [] = tt
-first_within n (e ∷ es) = within_by (length es) (first n (numbers es)) (eqb e.token n) (first_within n es)
-
 numbers_ascend : (bs ks ss : List ℕ) (es : List LexError) → Columns bs ks ss es → Ascending (numbers es)
 numbers_ascend bs ks ss es c i j l h =
     let long = length-map es (λ (e : LexError). e.token) in
@@ -67,6 +55,3 @@ module _ (bs ks ss : List ℕ) (es : List LexError) (e : accepts bs ks ss es ≡
 
   pub found_code : code_at es o ≡ first_of (errors_of n es)
   found_code = ap (code_at es) first_there ∙ sym (first_code n es)
-
-  pub found_within : IfSome o (λ k. k < length es)
-  found_within = subst (λ p. IfSome p (λ k. k < length es)) (sym first_there) (first_within n es)

@@ -2,9 +2,8 @@
 use Rattle.std.proofs.Common.{◌≡◌, ℕ, Bool, true, false, cond, ◌&&◌, leb, eqb, List, [], length, Some, None, Option, sym, refl, ap, ◌∙◌, subst, ⊎_elim, arith}
 use Rattle.std.proofs.lemmas.Bool.{cond-true, cond-false, cases_Bool, leb-false, lt-leb}
 use Rattle.script.specs.Admission.{most, ill_formed, admitted, refusal as script_refusal, Judged as ScriptJudged}
-use Rattle.script.specs.declared.refusal.Refusal.{Refusal as ScriptRefusal}
 use Rattle.script.specs.declared.refusal.Refusal.TheVariants as script
-use Rattle.script.proofs.Judges.{judged as script_judged, judged_only as script_only}
+use Rattle.script.proofs.Judges.{judged_only as script_only}
 use Rattle.lexed_str.specs.declared.error.LexError.{LexError}
 use Rattle.lexed_str.specs.declared.refusal.Refusal.{Refusal}
 use Rattle.lexed_str.specs.declared.refusal.Refusal.TheVariants as why
@@ -58,24 +57,6 @@ whole_by bs false whole at e = let z : ◌≡◌ {A = ℕ} 0 1 = cc in absurd (o
 
 script_whole : (bs : List ℕ) → script_refusal bs ≡ None → admitted bs ≡ bs
 script_whole bs e = whole_by bs (leb (length bs) most) (eqb (ill_formed bs) (length bs)) (ill_formed bs) e
-
-beside : (bs ks ss : List ℕ) (es : List LexError) (o : Option Refusal) → ScriptJudged bs None → Judged bs ks ss es o → JudgedBytes bs ks ss es o
-beside bs ks ss es None s j = (s, j)
-beside bs ks ss es (Some why.Kind) s j = (s, j)
-beside bs ks ss es (Some why.Columns) s j = (s, j)
-beside bs ks ss es (Some why.TooLong) s j = absurd j
-beside bs ks ss es (Some (why.NotUtf8 at)) s j = absurd j
-beside bs ks ss es (Some why.NoToken) s j = absurd j
-
-bytes_by : (bs ks ss : List ℕ) (es : List LexError) (o : Option ScriptRefusal) → script_refusal bs ≡ o → ScriptJudged bs o → JudgedBytes bs ks ss es (after o (columns_refusal (admitted bs) ks ss es))
-bytes_by bs ks ss es None e s =
-    beside bs ks ss es (columns_refusal (admitted bs) ks ss es) s
-    (subst (λ z. Judged z ks ss es (columns_refusal (admitted bs) ks ss es)) (script_whole bs e) (judged (admitted bs) ks ss es (columns_refusal (admitted bs) ks ss es) refl))
-bytes_by bs ks ss es (Some script.TooLong) e s = s
-bytes_by bs ks ss es (Some (script.NotUtf8 at)) e s = s
-
-pub bytes_judged : (bs ks ss : List ℕ) (es : List LexError) → JudgedBytes bs ks ss es (bytes_refusal bs ks ss es)
-bytes_judged bs ks ss es = bytes_by bs ks ss es (script_refusal bs) refl (script_judged bs (script_refusal bs) refl)
 
 -- where the bytes are a script, the answer is that for its columns
 of_script : (bs ks ss : List ℕ) (es : List LexError) (o : Option Refusal) → ScriptJudged bs None → Judged bs ks ss es o → o ≡ bytes_refusal bs ks ss es

@@ -109,10 +109,9 @@ impl Offer<'_> {
         requires { length self.now.starts.now ≡ length self.now.kinds.now }
         ensures { IsTrue result ↔ ((i : ℕ) → i < tokens self.now.kinds.now → token_fits self.now.script.bytes.now self.now.kinds.now self.now.starts.now i ≡ true) }
     {
-        self.kinds.iter().zip(self.starts.array_windows::<2>()).all(|(kind, [start, next])| *kind
-            != kinds::EOF
-            && self.script.is_boundary(*start as usize)
-            && start < next)
+        self.kinds.iter().zip(self.starts.array_windows::<2>()).all(|(kind, [start, next])| {
+            *kind != kinds::EOF && self.script.is_boundary(*start as usize) && start < next
+        })
     }
 
     // The tokens named ascend, so that the last one is the greatest.

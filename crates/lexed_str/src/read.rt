@@ -2,7 +2,7 @@
 ghost use Rattle.std.specs.Prelude.{◌≡◌, ◌<◌, ◌≤◌, length, ◌==◌};
 ghost use Rattle.std.specs.Result.{result_map_both};
 ghost use Rattle.lexed_str.specs.Columns.{tokens, start_at};
-ghost use Rattle.lexed_str.specs.Reading.{kind_answer, texts, text_answer, range_answer, places_answer, start_answer, len_answer, errors_of, first_of, error_answer};
+ghost use Rattle.lexed_str.specs.Reading.{of_token, kind_answer, texts, text_answer, range_answer, places_answer, start_answer, len_answer, errors_of, first_of, error_answer};
 
 use crate::error::LexError;
 use crate::lexed::LexedStr;
@@ -22,7 +22,7 @@ impl<'a> LexedStr<'a> {
     pub fn len(&self) -> usize
         ensures { result ≡ tokens self.now.kinds.now }
     {
-        self.entries() - 1
+        self.kinds.len() - 1
     }
 
     pub fn is_empty(&self) -> bool
@@ -34,18 +34,14 @@ impl<'a> LexedStr<'a> {
     pub fn kind(&self, i: usize) -> Result<u16, Refusal>
         ensures { result ≡ kind_answer self.now.kinds.now i }
     {
-        if i >= self.len() {
-            return Err(Refusal::NoToken);
-        }
+        self.check(i)?;
         Ok(self.kinds[i])
     }
 
     pub fn text(&self, i: usize) -> Result<&'a [u8], Refusal>
         ensures { result_map_both (λ x. x.now) (λ why. why) result ≡ text_answer self.now.script.bytes.now self.now.kinds.now self.now.starts.now i }
     {
-        if i >= self.len() {
-            return Err(Refusal::NoToken);
-        }
+        self.check(i)?;
         Ok(self.texts(i, i + 1))
     }
 
@@ -63,9 +59,7 @@ impl<'a> LexedStr<'a> {
     pub fn text_range(&self, i: usize) -> Result<Range<usize>, Refusal>
         ensures { result ≡ places_answer self.now.kinds.now self.now.starts.now i }
     {
-        if i >= self.len() {
-            return Err(Refusal::NoToken);
-        }
+        self.check(i)?;
         Ok(self.places(i, i + 1))
     }
 
@@ -73,29 +67,24 @@ impl<'a> LexedStr<'a> {
     pub fn text_start(&self, i: usize) -> Result<usize, Refusal>
         ensures { result ≡ start_answer self.now.kinds.now self.now.starts.now i }
     {
-        if i > self.len() {
-            return Err(Refusal::NoToken);
-        }
-        Ok(self.start(i))
+        self.starts
+            .get(i)
+            .map(|start| *start as usize)
+            .ok_or(Refusal::NoToken)
     }
 
     pub fn text_len(&self, i: usize) -> Result<usize, Refusal>
         ensures { result ≡ len_answer self.now.kinds.now self.now.starts.now i }
     {
-        if i >= self.len() {
-            return Err(Refusal::NoToken);
-        }
-        let places = self.places(i, i + 1);
-        Ok(places.end - places.start)
+        self.check(i)?;
+        Ok(self.places(i, i + 1).len())
     }
 
     // The code of the token's first error, if it has one.
     pub fn error(&self, i: usize) -> Result<Option<u16>, Refusal>
         ensures { result ≡ error_answer self.now.kinds.now self.now.errors.now i }
     {
-        if i >= self.len() {
-            return Err(Refusal::NoToken);
-        }
+        self.check(i)?;
         Ok(self.first_error(i))
     }
 
@@ -106,19 +95,15 @@ impl<'a> LexedStr<'a> {
         self.errors
     }
 
-    // One entry is the end's.
-    fn entries(&self) -> usize
-        ensures value { result ≡ length self.now.kinds.now }
-        ensures some { 0 < result }
+    // Refuses what is no token's number.
+    fn check(&self, i: usize) -> Result<(), Refusal>
+        ensures { result ≡ of_token self.now.kinds.now i tt }
     {
-        self.kinds.len()
-    }
-
-    fn start(&self, i: usize) -> usize
-        requires { i ≤ tokens self.now.kinds.now }
-        ensures { result ≡ start_at self.now.starts.now i }
-    {
-        self.starts[i] as usize
+        if i < self.len() {
+            Ok(())
+        } else {
+            Err(Refusal::NoToken)
+        }
     }
 
     // Where the text of the tokens from `from` up to `to` lies.
@@ -129,24 +114,20 @@ impl<'a> LexedStr<'a> {
         ensures rises { result.start < result.end }
         ensures within { result.end ≤ length self.now.script.bytes.now }
     {
-        self.start(from)..self.start(to)
+        self.starts[from] as usize..self.starts[to] as usize
     }
 
     fn texts(&self, from: usize, to: usize) -> &'a [u8]
         requires { (from < to) × (to ≤ tokens self.now.kinds.now) }
         ensures { result.now ≡ texts self.now.script.bytes.now self.now.starts.now from to }
     {
-        let Range { start, end } = self.places(from, to);
-        &self.script.bytes()[start..end]
+        &self.script.bytes()[self.places(from, to)]
     }
 
     fn first_error(&self, i: usize) -> Option<u16>
         requires { i < tokens self.now.kinds.now }
         ensures { result ≡ first_of (errors_of i self.now.errors.now) }
     {
-        match first_at(self.errors, i as u32) {
-            Some(place) => Some(self.errors[place].code),
-            None => None,
-        }
+        first_at(self.errors, i as u32).map(|place| self.errors[place].code)
     }
 }
