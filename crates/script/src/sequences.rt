@@ -1,5 +1,5 @@
 // Byte sequences of a table, and how far they follow one another.
-ghost use Rattle.std.specs.Prelude.{◌≡◌, ℕ, ◌+◌, ◌<◌, ◌≤◌, ◌||◌, List, [], ◌∷◌, length, if◌then◌else◌};
+ghost use Rattle.std.specs.Prelude.{◌≡◌, ℕ, ◌+◌, ◌<◌, ◌≤◌, ◌||◌, List, ◌∷◌, length, replicate, if◌then◌else◌};
 ghost use Rattle.script.specs.Sequences.{Row, ◌⋯◌, holds, stands, sequence, run_end};
 ghost use Rattle.script.specs.Utf8Table.{continuing, utf8};
 ghost use Rattle.script.specs.WhiteTable.{white};
@@ -21,19 +21,16 @@ impl Table for Utf8 {
     ghost rows = { λ _. utf8 };
 
     fn sequence_len(&self, bytes: &[u8], at: usize) -> usize {
-        if at >= bytes.len() {
-            return 0;
-        }
-        match bytes[at] {
-            0x00..=0x7F => 1,
-            0xC2..=0xDF => two(bytes, at + 1, 0x80, 0xBF),
-            0xE0 => three(bytes, at + 1, 0xA0, 0xBF),
-            0xE1..=0xEC => three(bytes, at + 1, 0x80, 0xBF),
-            0xED => three(bytes, at + 1, 0x80, 0x9F),
-            0xEE..=0xEF => three(bytes, at + 1, 0x80, 0xBF),
-            0xF0 => four(bytes, at + 1, 0x90, 0xBF),
-            0xF1..=0xF3 => four(bytes, at + 1, 0x80, 0xBF),
-            0xF4 => four(bytes, at + 1, 0x80, 0x8F),
+        match bytes.get(at) {
+            Some(0x00..=0x7F) => 1,
+            Some(0xC2..=0xDF) => led::<0>(bytes, at + 1, 0x80, 0xBF),
+            Some(0xE0) => led::<1>(bytes, at + 1, 0xA0, 0xBF),
+            Some(0xE1..=0xEC) => led::<1>(bytes, at + 1, 0x80, 0xBF),
+            Some(0xED) => led::<1>(bytes, at + 1, 0x80, 0x9F),
+            Some(0xEE..=0xEF) => led::<1>(bytes, at + 1, 0x80, 0xBF),
+            Some(0xF0) => led::<2>(bytes, at + 1, 0x90, 0xBF),
+            Some(0xF1..=0xF3) => led::<2>(bytes, at + 1, 0x80, 0xBF),
+            Some(0xF4) => led::<2>(bytes, at + 1, 0x80, 0x8F),
             _ => 0,
         }
     }
@@ -47,13 +44,10 @@ impl Table for White {
     ghost rows = { λ _. white };
 
     fn sequence_len(&self, bytes: &[u8], at: usize) -> usize {
-        if at >= bytes.len() {
-            return 0;
-        }
-        match bytes[at] {
-            0x09..=0x0D | 0x20 => 1,
-            0xC2 => two(bytes, at + 1, 0x85, 0x85),
-            0xE2 if in_range(bytes, at + 1, 0x80, 0x80) => white_mark(bytes, at + 2),
+        match bytes.get(at) {
+            Some(0x09..=0x0D | 0x20) => 1,
+            Some(0xC2) => led::<0>(bytes, at + 1, 0x85, 0x85),
+            Some(0xE2) if in_range(bytes, at + 1, 0x80, 0x80) => white_mark(bytes, at + 2),
             _ => 0,
         }
     }
@@ -63,10 +57,9 @@ impl Table for White {
 fn white_mark(bytes: &[u8], last: usize) -> usize
     ensures { result ≡ (if holds (0x8E ⋯ 0x8F) bytes.now last || holds (0xA8 ⋯ 0xA9) bytes.now last then 3 else 0) }
 {
-    if in_range(bytes, last, 0x8E, 0x8F) || in_range(bytes, last, 0xA8, 0xA9) {
-        3
-    } else {
-        0
+    match bytes.get(last) {
+        Some(0x8E..=0x8F | 0xA8..=0xA9) => 3,
+        _ => 0,
     }
 }
 
@@ -88,38 +81,24 @@ pub(crate) fn run_end<T: Table>(table: &T, bytes: &[u8], from: usize) -> usize
 fn in_range(bytes: &[u8], at: usize, low: u8, high: u8) -> bool
     ensures { result ≡ holds (low ⋯ high) bytes.now at }
 {
-    at < bytes.len() && low <= bytes[at] && bytes[at] <= high
+    bytes
+        .get(at)
+        .is_some_and(|byte| (low..=high).contains(byte))
 }
 
-// The length of a sequence of two bytes, the second of which stands at `next` and lies in the range; else 0.
-fn two(bytes: &[u8], next: usize, low: u8, high: u8) -> usize
-    ensures { result ≡ (if stands ((low ⋯ high) ∷ []) bytes.now next then 2 else 0) }
+// The length of the sequence whose first byte stands before `next`: there follow a byte of the range and then
+// MORE that continue the sequence; else 0.
+fn led<const MORE: usize>(bytes: &[u8], next: usize, low: u8, high: u8) -> usize
+    requires { (next ≤ length bytes.now) × (MORE < 3) }
+    ensures { result ≡ (if stands ((low ⋯ high) ∷ replicate MORE continuing) bytes.now next then MORE + 2 else 0) }
 {
-    if in_range(bytes, next, low, high) {
-        2
-    } else {
-        0
+    if !in_range(bytes, next, low, high) {
+        return 0;
     }
-}
-
-fn three(bytes: &[u8], next: usize, low: u8, high: u8) -> usize
-    requires { next ≤ length bytes.now }
-    ensures { result ≡ (if stands ((low ⋯ high) ∷ continuing ∷ []) bytes.now next then 3 else 0) }
-{
-    if in_range(bytes, next, low, high) && in_range(bytes, next + 1, 0x80, 0xBF) {
-        3
-    } else {
-        0
+    for i in 0..MORE {
+        if !in_range(bytes, next + 1 + i, 0x80, 0xBF) {
+            return 0;
+        }
     }
-}
-
-fn four(bytes: &[u8], next: usize, low: u8, high: u8) -> usize
-    requires { next ≤ length bytes.now }
-    ensures { result ≡ (if stands ((low ⋯ high) ∷ continuing ∷ continuing ∷ []) bytes.now next then 4 else 0) }
-{
-    if three(bytes, next, low, high) == 3 && in_range(bytes, next + 2, 0x80, 0xBF) {
-        4
-    } else {
-        0
-    }
+    MORE + 2
 }
