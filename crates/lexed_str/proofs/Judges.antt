@@ -1,7 +1,7 @@
 -- Each answer to an offer says what it should, and no other answer does. Assumes nothing.
-use Rattle.std.proofs.Common.{◌≡◌, ℕ, Bool, true, false, cond, ◌&&◌, leb, eqb, List, [], length, Some, None, Option, sym, refl, ap, ◌∙◌, subst, ⊎_elim, arith}
+use Rattle.std.proofs.Common.{◌≡◌, ℕ, Bool, true, false, cond, leb, List, length, Some, None, Option, sym, refl, ap, ◌∙◌, subst, ⊎_elim, arith}
 use Rattle.std.proofs.lemmas.Bool.{cond-true, cond-false, cases_Bool, leb-false, lt-leb}
-use Rattle.script.specs.Admission.{most, ill_formed, admitted, refusal as script_refusal, Judged as ScriptJudged}
+use Rattle.script.specs.Admission.{refusal as script_refusal, Judged as ScriptJudged}
 use Rattle.script.specs.declared.refusal.Refusal.TheVariants as script
 use Rattle.script.proofs.Judges.{judged_only as script_only}
 use Rattle.lexed_str.specs.declared.error.LexError.{LexError}
@@ -49,27 +49,16 @@ judged_only bs ks ss es (Some why.TooLong) h = absurd h
 judged_only bs ks ss es (Some (why.NotUtf8 at)) h = absurd h
 judged_only bs ks ss es (Some why.NoToken) h = absurd h
 
--- the same for bytes
-whole_by : (bs : List ℕ) (short whole : Bool) (at : ℕ) → cond short (cond whole None (Some (script.NotUtf8 at))) (Some script.TooLong) ≡ None → cond (short && whole) bs [] ≡ bs
-whole_by bs true true at e = refl
-whole_by bs true false at e = let z : ◌≡◌ {A = ℕ} 0 1 = cc in absurd (omega arith)
-whole_by bs false whole at e = let z : ◌≡◌ {A = ℕ} 0 1 = cc in absurd (omega arith)
-
-script_whole : (bs : List ℕ) → script_refusal bs ≡ None → admitted bs ≡ bs
-script_whole bs e = whole_by bs (leb (length bs) most) (eqb (ill_formed bs) (length bs)) (ill_formed bs) e
-
 -- where the bytes are a script, the answer is that for its columns
 of_script : (bs ks ss : List ℕ) (es : List LexError) (o : Option Refusal) → ScriptJudged bs None → Judged bs ks ss es o → o ≡ bytes_refusal bs ks ss es
 of_script bs ks ss es o s j =
     let free : None ≡ script_refusal bs = script_only bs None s in
-    judged_only bs ks ss es o j
-    ∙ ap (λ z. columns_refusal z ks ss es) (sym (script_whole bs (sym free)))
-    ∙ ap (λ z. after z (columns_refusal (admitted bs) ks ss es)) free
+    judged_only bs ks ss es o j ∙ ap (λ z. after z (columns_refusal bs ks ss es)) free
 
 pub bytes_only : (bs ks ss : List ℕ) (es : List LexError) (o : Option Refusal) → JudgedBytes bs ks ss es o → o ≡ bytes_refusal bs ks ss es
 bytes_only bs ks ss es None h = of_script bs ks ss es None h.0 h.1
 bytes_only bs ks ss es (Some why.Kind) h = of_script bs ks ss es (Some why.Kind) h.0 h.1
 bytes_only bs ks ss es (Some why.Columns) h = of_script bs ks ss es (Some why.Columns) h.0 h.1
-bytes_only bs ks ss es (Some why.TooLong) h = ap (λ z. after z (columns_refusal (admitted bs) ks ss es)) (script_only bs (Some script.TooLong) h)
-bytes_only bs ks ss es (Some (why.NotUtf8 at)) h = ap (λ z. after z (columns_refusal (admitted bs) ks ss es)) (script_only bs (Some (script.NotUtf8 at)) h)
+bytes_only bs ks ss es (Some why.TooLong) h = ap (λ z. after z (columns_refusal bs ks ss es)) (script_only bs (Some script.TooLong) h)
+bytes_only bs ks ss es (Some (why.NotUtf8 at)) h = ap (λ z. after z (columns_refusal bs ks ss es)) (script_only bs (Some (script.NotUtf8 at)) h)
 bytes_only bs ks ss es (Some why.NoToken) h = absurd h

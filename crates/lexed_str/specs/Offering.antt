@@ -1,6 +1,6 @@
 -- The test of columns that are offered, what it refuses, and what is held afterwards.
 use Rattle.std.specs.Prelude.{ℕ, zero, suc, ◌+◌, ◌-◌, Bool, true, cond, not, ◌&&◌, List, length, Some, None, Option, ◌==◌, nat_le, nat_lt}
-use Rattle.script.specs.Admission.{admitted, refusal as script_refusal}
+use Rattle.script.specs.Admission.{refusal as script_refusal}
 use Rattle.script.specs.declared.refusal.Refusal.{Refusal as ScriptRefusal}
 use Rattle.script.specs.Places.{boundary}
 use Rattle.lexed_str.specs.declared.error.LexError.{LexError}
@@ -50,4 +50,4 @@ after (Some why) o = Some (carried why)
 
 -- why columns of bytes are not read: the bytes are no script, or else the script's columns are not read
 abbrev pub bytes_refusal : List ℕ → List ℕ → List ℕ → List LexError → Option Refusal
-bytes_refusal bs ks ss es = after (script_refusal bs) (columns_refusal (admitted bs) ks ss es)
+bytes_refusal bs ks ss es = after (script_refusal bs) (columns_refusal bs ks ss es)
