@@ -1,5 +1,5 @@
 -- What a call refuses.
-use Rattle.std.specs.Prelude.{ℕ}
+use Rattle.std.specs.Prelude.{ℕ, List, codes}
 use Rattle.syntax_kind.specs.declared.Refusal.{Refusal}
 use Rattle.syntax_kind.specs.declared.Refusal.TheVariants.{Edition, Kind}
 
@@ -7,3 +7,8 @@ use Rattle.syntax_kind.specs.declared.Refusal.TheVariants.{Edition, Kind}
 abbrev pub refusal_number : Refusal → ℕ
 refusal_number Edition = 3
 refusal_number Kind = 4
+
+-- what `{}` prints of a refusal
+abbrev pub refusal_text : Refusal → List ℕ
+refusal_text Edition = codes "the edition is past the last one"
+refusal_text Kind = codes "the kind is past the last one"

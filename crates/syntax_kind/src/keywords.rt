@@ -36,5 +36,5 @@ pub fn look_up(table: &[Keyword], ident: &[u8], edition: Edition) -> Option<u16>
     table
         .iter()
         .find(|k| k.is_named(ident, edition))
-        .map(|k| k.1)
+        .map(|Keyword(_, kind, _)| *kind)
 }

@@ -1,8 +1,8 @@
 //! The kinds of tokens and nodes of Rust's syntax, as numbers, and the keywords of each edition.
 #![tactic(auto)]
 
-ghost use Rattle.std.specs.Prelude.{◌≡◌};
-ghost use Rattle.syntax_kind.specs.Refusals.{refusal_number};
+ghost use Rattle.std.specs.Prelude.{◌≡◌, Some};
+ghost use Rattle.syntax_kind.specs.Refusals.{refusal_number, refusal_text};
 ghost use Rattle.syntax_kind.specs.Trivia.{trivia_answer};
 
 mod editions;
@@ -12,6 +12,8 @@ mod tables;
 
 pub use editions::{Edition, UnknownEdition};
 pub use keywords::{from_contextual_keyword, from_keyword};
+use std::error::Error;
+use std::fmt;
 
 /// Why a call refuses to answer.
 #[derive(Clone, Copy, Debug, PartialEq, Eq)]
@@ -33,6 +35,19 @@ impl Refusal {
         }
     }
 }
+
+impl fmt::Display for Refusal {
+    ghost output = { λ why. Some (refusal_text why) };
+
+    fn fmt<W: fmt::Write>(&self, f: &mut fmt::Formatter<W>) -> fmt::Result {
+        f.write_str(match self {
+            Refusal::Edition => "the edition is past the last one",
+            Refusal::Kind => "the kind is past the last one",
+        })
+    }
+}
+
+impl Error for Refusal {}
 
 /// Whether the parser passes over tokens of this kind. Doc comments are tokens of their own, and no trivia.
 pub fn is_trivia(kind: u16) -> Result<bool, Refusal>

@@ -43,6 +43,7 @@ const FROM_2024: Editions = Editions {
 };
 
 /// A keyword: its text, its kind, and the editions that have it.
+// Numbered fields, so that the tables have a row a line: named ones take five lines each.
 #[derive(Clone, Copy)]
 pub struct Keyword(pub &'static [u8], pub u16, pub Editions);
 

@@ -1,17 +1,11 @@
-use Rattle.std.proofs.Common.{◌≡◌, Ok, rules, sym, ◌∙◌, subst}
-use Rattle.syntax_kind.specs.Keywords.{Answer, strict, keyword_answer}
-use Rattle.syntax_kind.specs.Named.{Named}
+use Rattle.std.proofs.Common.{Ok, rules, ◌∙◌}
+use Rattle.syntax_kind.specs.Keywords.{strict}
 use Rattle.syntax_kind.proofs.Meaning.{right, alone}
 use Rattle.syntax_kind.proofs.Computed.{strict_apart}
 use Rattle.syntax_kind.proofs.keywords.from_keyword.Goals as goal
 
 pub returns-clause-named : goal.returns-clause-named
-returns-clause-named c =
-    let P : Answer → Type 0 = Named strict c.args.ident.now c.args.edition in
-    let value : Ok c.keyword.result ≡ keyword_answer c.args.ident.now c.args.edition = search rules in
-    subst P (sym value) (right strict strict_apart c.args.ident.now c.args.edition)
+returns-clause-named c = right strict strict_apart c.args.ident.now c.args.edition (Ok c.keyword.result) (search rules)
 
 pub returns-clause-only : goal.returns-clause-only
-returns-clause-only c a n =
-    let value : Ok c.keyword.result ≡ keyword_answer c.args.ident.now c.args.edition = search rules in
-    alone strict strict_apart c.args.ident.now c.args.edition a n ∙ sym value
+returns-clause-only c a n = alone strict strict_apart c.args.ident.now c.args.edition a n ∙ search rules
