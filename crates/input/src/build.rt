@@ -32,7 +32,7 @@ pub fn to_input(lexed: &LexedStr, edition: u8, input: &mut Input) -> Result<(), 
     Ok(())
 }
 
-// Puts the tokens in, one after the other.
+// Puts the tokens in, one after the other: by their numbers, since columns are asked for a token by its number.
 fn push_tokens(input: &mut Input, lexed: &LexedStr, edition: Edition)
     requires { spacious (tokens lexed.now.kinds.now) (columns_of input.old) ≡ true }
     ensures built { Built lexed.now.script.bytes.now lexed.now.kinds.now lexed.now.starts.now (edition_number edition) (columns_of input.old) (columns_of input.new) }

@@ -19,7 +19,7 @@ pub(crate) fn mark(joint: &mut [u64], n: usize)
     joint[n / 64] |= 1 << (n % 64);
 }
 
-// Unmarks the word of entry n where the entry is its first: nothing cleared it before.
+// Clears the word of entry n where the entry is the word's first: the word may hold anything till then.
 pub(crate) fn begin(joint: &mut [u64], n: usize)
     requires { n / 64 < length joint.old }
     ensures { joint.new ≡ cond (n % 64 == 0) (slice_set joint.old (n / 64) 0) joint.old }
