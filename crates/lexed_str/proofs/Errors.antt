@@ -1,10 +1,12 @@
 -- The first error of a token, by the search among the records. Assumes nothing.
-use Rattle.std.proofs.Common.{◌≡◌, ℕ, ◌<◌, Bool, true, false, cond, eqb, List, [], ◌∷◌, map, get_or, Some, None, Option, sym, refl, ap, ◌∙◌, arith}
+use Rattle.std.proofs.Common.{◌≡◌, ℕ, ◌<◌, Bool, true, false, cond, eqb, ltb, List, [], ◌∷◌, map, length, get_or, IfSome, Some, None, Option, sym, refl, ap, ◌∙◌, subst, arith}
 use lib.ListN.{length-map}
 use Rattle.std.proofs.lemmas.List.{get_or-map}
+use Rattle.std.proofs.lemmas.Bool.Decides.{nat_tests}
 use Rattle.script.specs.Admission.{admits}
 use Rattle.script.proofs.Bounds.{admitted_short}
-use Rattle.records.specs.Keys.{Ascending, first, later}
+use Rattle.records.specs.Cuts.{bisect}
+use Rattle.records.specs.Keys.{Ascending, first, later, standing, searched}
 use Rattle.lexed_str.specs.declared.error.LexError.{LexError}
 use Rattle.lexed_str.specs.Columns.{Columns, tokens}
 use Rattle.lexed_str.specs.Offering.{accepts}
@@ -47,6 +49,16 @@ numbers_ascend bs ks ss es c i j l h =
 pub short : (bs ks ss : List ℕ) (es : List LexError) (i : ℕ) → admits bs ≡ true → accepts bs ks ss es ≡ true → i < tokens ks → i < 4294967296
 short bs ks ss es i a e l =
     omega (arith, admitted_short bs a, tokens_within bs ks ss es (accepted_columns bs ks ss es e))
+
+-- where the search ends, there is an error
+standing_within : (n : ℕ) (keys : List ℕ) (i : ℕ) (o : Option ℕ) → o ≡ standing n keys i → IfSome o (λ k. k < length keys)
+standing_within n keys i None e = tt
+standing_within n keys i (Some k) e = grind (arith, nat_tests)
+
+pub searched_within : (n : ℕ) (es : List LexError) (o : Option ℕ) → o ≡ searched (λ (e : LexError). e.token) n es → IfSome o (λ k. k < length es)
+searched_within n es o e =
+    let place = bisect (λ (e : LexError). ltb e.token n) es in
+    subst (λ m. IfSome o (λ k. k < m)) (length-map es (λ (e : LexError). e.token)) (standing_within n (numbers es) place o e)
 
 -- what the search answers among the errors of accepted columns
 module _ (bs ks ss : List ℕ) (es : List LexError) (e : accepts bs ks ss es ≡ true) (n : ℕ) (o : Option ℕ) (found : Ascending (numbers es) → o ≡ first n (numbers es)) where

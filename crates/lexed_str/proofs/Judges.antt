@@ -1,6 +1,7 @@
 -- Each answer to an offer says what it should, and no other answer does. Assumes nothing.
-use Rattle.std.proofs.Common.{◌≡◌, ℕ, Bool, true, false, cond, leb, List, length, Some, None, Option, sym, refl, ap, ◌∙◌, subst, ⊎_elim, arith}
-use Rattle.std.proofs.lemmas.Bool.{cond-true, cond-false, cases_Bool, leb-false, lt-leb}
+use Rattle.std.proofs.Common.{◌≡◌, ℕ, Bool, true, false, cond, leb, List, length, Some, None, Option, sym, refl, ap, ◌∙◌, subst, arith}
+use Rattle.std.proofs.lemmas.Bool.{leb-false, lt-leb}
+use Rattle.std.proofs.lemmas.Grind.{common_steps}
 use Rattle.script.specs.Admission.{refusal as script_refusal, Judged as ScriptJudged}
 use Rattle.script.specs.declared.refusal.Refusal.TheVariants as script
 use Rattle.script.proofs.Judges.{judged_only as script_only}
@@ -19,7 +20,7 @@ unknown_found ks e =
     (found.0, found.1, leb-false (kind_at ks found.0) last_kind found.2)
 
 found_unknown : (ks : List ℕ) → Unknown ks → kinds_known ks ≡ false
-found_unknown ks u = sym (below_fails (λ j. leb (kind_at ks j) last_kind) (length ks) u.0 u.1 (sym (lt-leb (kind_at ks u.0) last_kind u.2)))
+found_unknown ks u = below_fails (λ j. leb (kind_at ks j) last_kind) (length ks) u.0 u.1 (lt-leb (kind_at ks u.0) last_kind u.2)
 
 judged_by :
     (bs ks ss : List ℕ) (es : List LexError) (known fit : Bool) → kinds_known ks ≡ known → columns_fit bs ks ss es ≡ fit
@@ -31,20 +32,18 @@ judged_by bs ks ss es true false k f = (known_each ks k, λ c. let z : ◌≡◌
 pub judged : (bs ks ss : List ℕ) (es : List LexError) (o : Option Refusal) → o ≡ columns_refusal bs ks ss es → Judged bs ks ss es o
 judged bs ks ss es o e = subst (Judged bs ks ss es) (sym e) (judged_by bs ks ss es (kinds_known ks) (columns_fit bs ks ss es) refl refl)
 
--- the answer where every kind is known
-with_kinds : (bs ks ss : List ℕ) (es : List LexError) (fit : Bool) → kinds_known ks ≡ true → columns_fit bs ks ss es ≡ fit → cond fit None (Some why.Columns) ≡ columns_refusal bs ks ss es
-with_kinds bs ks ss es fit k f =
-    sym (cond-true (kinds_known ks) (cond (columns_fit bs ks ss es) None (Some why.Columns)) (Some why.Kind) k ∙ ap (λ b. cond b None (Some why.Columns)) f)
-
 pub judged_only : (bs ks ss : List ℕ) (es : List LexError) (o : Option Refusal) → Judged bs ks ss es o → o ≡ columns_refusal bs ks ss es
-judged_only bs ks ss es None c = with_kinds bs ks ss es true (each_known ks c.known) (columns_fit_lem bs ks ss es c)
+judged_only bs ks ss es None c =
+    let known = each_known ks c.known in
+    let fit = columns_fit_lem bs ks ss es c in
+    grind (arith, common_steps)
 judged_only bs ks ss es (Some why.Kind) u =
-    sym (cond-false (kinds_known ks) (cond (columns_fit bs ks ss es) None (Some why.Columns)) (Some why.Kind) (found_unknown ks u))
+    let unknown = found_unknown ks u in
+    grind (arith, common_steps)
 judged_only bs ks ss es (Some why.Columns) h =
-    ⊎_elim
-    (λ (fit : columns_fit bs ks ss es ≡ true). absurd (h.1 (columns_from bs ks ss es h.0 fit)))
-    (λ (unfit : columns_fit bs ks ss es ≡ false). with_kinds bs ks ss es false (each_known ks h.0) unfit)
-    (cases_Bool (columns_fit bs ks ss es))
+    let known = each_known ks h.0 in
+    let unfit = λ (fit : columns_fit bs ks ss es ≡ true). h.1 (columns_from bs ks ss es h.0 fit) in
+    grind (arith, common_steps)
 judged_only bs ks ss es (Some why.TooLong) h = absurd h
 judged_only bs ks ss es (Some (why.NotUtf8 at)) h = absurd h
 judged_only bs ks ss es (Some why.NoToken) h = absurd h

@@ -2,12 +2,8 @@
 use Rattle.std.proofs.Common.{◌≡◌, ℕ, zero, suc, ◌+◌, ◌-◌, ◌<◌, ◌≤◌, List, length, sym, subst, arith}
 use Rattle.lexed_str.specs.declared.error.LexError.{LexError}
 use Rattle.lexed_str.specs.Columns.{Columns, tokens, start_at}
-use Rattle.lexed_str.proofs.Accepted.{some_entry}
 
 module _ (bs ks ss : List ℕ) (es : List LexError) (c : Columns bs ks ss es) where
-  pub kind_entries : length ks ≡ tokens ks + 1
-  kind_entries = omega (arith, some_entry ks c.closes)
-
   -- starts rise
   rising : (d i : ℕ) → i + d ≤ tokens ks → start_at ss i + d ≤ start_at ss (i + d)
   rising zero i l = let same : i + 0 ≡ i = omega arith in subst (λ j. start_at ss i + 0 ≤ start_at ss j) (sym same) (omega arith)

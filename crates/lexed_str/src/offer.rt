@@ -1,7 +1,8 @@
 // Offering: the test that columns pass once, before anything reads them.
 ghost use Rattle.std.specs.Prelude.{◌≡◌, ◌+◌, ◌-◌, ◌<◌, ◌≤◌, ◌↔◌, ℕ, true, length, Option, IfOk, IsTrue};
+ghost use Rattle.std.specs.List.Sorted.{IsNonDecreasingBy};
 ghost use Rattle.std.specs.Result.{result_err};
-ghost use Rattle.lexed_str.specs.Columns.{tokens, token_at};
+ghost use Rattle.lexed_str.specs.Columns.{tokens};
 ghost use Rattle.lexed_str.specs.Offering.{all_below, kinds_known, ends_fit, token_fits, error_fits, columns_fit, columns_refusal, bytes_refusal};
 ghost use Rattle.lexed_str.specs.Judging.{Judged, JudgedBytes};
 
@@ -128,7 +129,7 @@ impl Offer<'_> {
     }
 
     fn errors_ascend(&self) -> bool
-        ensures { IsTrue result ↔ ((k : ℕ) → k + 1 < length self.now.errors.now → token_at self.now.errors.now k ≤ token_at self.now.errors.now (k + 1)) }
+        ensures { IsTrue result ↔ IsNonDecreasingBy (λ e. e.token) self.now.errors.now }
     {
         self.errors.is_sorted_by_key(|e| e.token)
     }
