@@ -1,9 +1,8 @@
 -- The trials for a closing fence. Assumes nothing.
 use Rattle.std.proofs.Common.{◌≡◌, ℕ, zero, suc, ◌+◌, ◌-◌, ◌<◌, ◌≤◌, Bool, true, false, cond, ltb, leb, List, length, Some, None, Option, sym, refl, ap, ◌∙◌, arith}
 use Rattle.std.proofs.lemmas.Bool.{and_parts, leb-true, ltb-true, le-ltb, lt-ltb, cond-true, cond-false}
-use Rattle.frontmatter.specs.declared.find.Class.TheVariants.{LineFeed, NotDash}
 use Rattle.frontmatter.specs.declared.reader.Close.{Close}
-use Rattle.frontmatter.specs.Lines.{at, dash_end, closes_at, close_from}
+use Rattle.frontmatter.specs.Lines.{line_feed, not_dash, at, dash_end, closes_at, close_from}
 use Rattle.frontmatter.specs.Closes.{trial_of, close_of}
 use Rattle.frontmatter.proofs.Searched.{first_nowhere, first_hit, first_high}
 
@@ -14,10 +13,10 @@ pub trial_some : (s : List ℕ) (n p k : ℕ) → k ≡ close_from s n p → k <
 trial_some s n p k e l = ap Some e ∙ sym (cond-true (ltb (close_from s n p) (length s)) (Some (close_from s n p)) None (lt-ltb (close_from s n p) (length s) (omega arith)))
 
 -- where no LF has n dashes after it, no trial with n succeeds
-pub too_many : (s : List ℕ) (n p most : ℕ) → most < n → ((k : ℕ) → p ≤ k → k < length s → at LineFeed s k ≡ true → dash_end s (k + 1) ≤ k + 1 + most) → length s ≤ close_from s n p
+pub too_many : (s : List ℕ) (n p most : ℕ) → most < n → ((k : ℕ) → p ≤ k → k < length s → at line_feed s k ≡ true → dash_end s (k + 1) ≤ k + 1 + most) → length s ≤ close_from s n p
 too_many s n p most l few =
     first_nowhere (closes_at s n) p (length s) (λ k low high e.
-    let both = and_parts (at LineFeed s k) (leb (k + 1 + n) (dash_end s (k + 1))) e in
+    let both = and_parts (at line_feed s k) (leb (k + 1 + n) (dash_end s (k + 1))) e in
     omega (arith, few k low high both.0, leb-true (k + 1 + n) (dash_end s (k + 1)) both.1))
 
 some_by : (s : List ℕ) (p n k c : ℕ) (rest : Option Close) (b : Bool) → Some k ≡ cond b (Some c) None → cond b (Some (record { at = c; dashes = n })) rest ≡ Some (record { at = k; dashes = n })
@@ -50,8 +49,8 @@ module _ (s s' : List ℕ) (p p' n d : ℕ) (place : p' ≡ p) (bytes : s' ≡ s
 pub closes_within : (s : List ℕ) (n p : ℕ) → p ≤ length s → close_from s n p < length s → close_from s n p + 1 + n ≤ length s
 closes_within s n p l h =
     let k = close_from s n p in
-    let both = and_parts (at LineFeed s k) (leb (k + 1 + n) (dash_end s (k + 1))) (first_hit (closes_at s n) p (length s) l h) in
-    omega (arith, leb-true (k + 1 + n) (dash_end s (k + 1)) both.1, first_high (at NotDash s) (k + 1) (length s) (omega arith))
+    let both = and_parts (at line_feed s k) (leb (k + 1 + n) (dash_end s (k + 1))) (first_hit (closes_at s n) p (length s) l h) in
+    omega (arith, leb-true (k + 1 + n) (dash_end s (k + 1)) both.1, first_high (at not_dash s) (k + 1) (length s) (omega arith))
 
 within_by : (s : List ℕ) (p n : ℕ) (c : Close) (b : Bool) → ltb (close_from s n p) (length s) ≡ b → p ≤ length s → (Some c ≡ close_of s p (n - 1) → c.at + 1 + c.dashes ≤ length s) → Some c ≡ cond b (Some (record { at = close_from s n p; dashes = n })) (close_of s p (n - 1)) → c.at + 1 + c.dashes ≤ length s
 within_by s p n c true t l ih e =

@@ -1,8 +1,8 @@
 -- The answer for any bytes is the one that the relation allows. Assumes nothing.
-use Rattle.std.proofs.Common.{◌≡◌, ℕ, true, List, Some, None, Ok, Err, Option, Result, ap, ◌∙◌}
+use Rattle.std.proofs.Common.{◌≡◌, ℕ, true, List, Some, None, Ok, Err, Option, Result, sym, refl, ap, ◌∙◌, subst}
 use Rattle.script.specs.Admission.{refusal, admits, Judged}
 use Rattle.script.specs.declared.refusal.Refusal.{Refusal}
-use Rattle.script.proofs.Judges.{judged, judged_only, passed}
+use Rattle.script.proofs.Judges.{judged, judged_only}
 use Rattle.frontmatter.specs.declared.source.ScriptSource.{ScriptSource}
 use Rattle.frontmatter.specs.declared.source.Failure.{Failure}
 use Rattle.frontmatter.specs.declared.source.Failure.TheVariants.{Refused, Faulty}
@@ -20,18 +20,10 @@ answer_parses : (bs : List ℕ) (o : Option Refusal) → Judged bs o → Parses 
 answer_parses bs (Some why) j = j
 answer_parses bs None j = read_parses bs (parsed bs) j (sound bs)
 
-pub parses : (bs : List ℕ) → Parses bs (parsing bs)
-parses bs = answer_parses bs (refusal bs) (judged bs)
+pub parses : (bs : List ℕ) (a : Result ScriptSource Failure) → a ≡ parsing bs → Parses bs a
+parses bs a e = subst (Parses bs) (sym e) (answer_parses bs (refusal bs) (judged bs (refusal bs) refl))
 
 pub parses_only : (bs : List ℕ) (a : Result ScriptSource Failure) → Parses bs a → a ≡ parsing bs
 parses_only bs (Ok r) d = ap read (only bs (Ok r) d.1) ∙ ap (λ o. answer o bs) (judged_only bs None d.0)
 parses_only bs (Err (Refused why)) d = ap (λ o. answer o bs) (judged_only bs (Some why) d)
 parses_only bs (Err (Faulty f)) d = ap read (only bs (Err f) d.1) ∙ ap (λ o. answer o bs) (judged_only bs None d.0)
-
-admitted : (bs : List ℕ) → Judged bs None → admits bs ≡ true
-admitted bs j = passed bs None (judged_only bs None j)
-
-pub parses_placed : (bs : List ℕ) (a : Result ScriptSource Failure) → Parses bs a → PlacedIn bs a
-parses_placed bs (Ok r) d = placed bs (admitted bs d.0) (Ok r) d.1
-parses_placed bs (Err (Refused why)) d = tt
-parses_placed bs (Err (Faulty f)) d = placed bs (admitted bs d.0) (Err f) d.1

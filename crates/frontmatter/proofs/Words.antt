@@ -6,66 +6,65 @@ use Rattle.script.specs.WhiteTable.{white}
 use Rattle.script.proofs.Runs.{after_ge}
 use Rattle.script.proofs.Joins.{run_is, run_only}
 use Rattle.script.proofs.Tables.{white_fair}
-use Rattle.frontmatter.specs.declared.find.Class.TheVariants.{LineFeed, NotDash, NotBlank}
 use Rattle.frontmatter.specs.declared.source.Span.{Span}
 use Rattle.frontmatter.specs.Searches.{first, past_last}
-use Rattle.frontmatter.specs.Lines.{is_of, at, line_end, next_line, dash_end, blank_end, closes_at, close_from, without_cr}
+use Rattle.frontmatter.specs.Lines.{line_feed, not_dash, not_blank, at, line_end, next_line, dash_end, blank_end, closes_at, close_from, without_cr}
 use Rattle.frontmatter.specs.Parsed.{span, text}
 use Rattle.frontmatter.specs.Fences.{Blank, Dashes, Line, NextLine, WhiteSpace, BlankLines, Begins, FirstLine, Text, LessCr}
 use Rattle.frontmatter.proofs.Searched.{first_low, first_high, first_before, first_hit, first_unique, first_nowhere, last_low, last_high, last_hit, last_after, last_unique}
 
 -- the classes of bytes
-is_dash_lem : (b : ℕ) → is_of NotDash b ≡ false → b ≡ 0x2D
+is_dash_lem : (b : ℕ) → not_dash b ≡ false → b ≡ 0x2D
 is_dash_lem b e = eqb-true b 0x2D (not-false (eqb b 0x2D) e)
 
-no_dash : (b : ℕ) → is_of NotDash b ≡ true → b ≡ 0x2D → ⊥
+no_dash : (b : ℕ) → not_dash b ≡ true → b ≡ 0x2D → ⊥
 no_dash b e = eqb-false b 0x2D (not-true (eqb b 0x2D) e)
 
-from_no_dash : (b : ℕ) → (b ≡ 0x2D → ⊥) → is_of NotDash b ≡ true
+from_no_dash : (b : ℕ) → (b ≡ 0x2D → ⊥) → not_dash b ≡ true
 from_no_dash b h = not_from_false (eqb b 0x2D) (ne_eqb b 0x2D h)
 
-from_dash : (b : ℕ) → b ≡ 0x2D → is_of NotDash b ≡ true → ⊥
+from_dash : (b : ℕ) → b ≡ 0x2D → not_dash b ≡ true → ⊥
 from_dash b h e = no_dash b e h
 
-is_blank : (b : ℕ) → is_of NotBlank b ≡ false → Blank b
+is_blank : (b : ℕ) → not_blank b ≡ false → Blank b
 is_blank b e = ⊎_elim (λ h. inl (eqb-true b 0x20 h)) (λ h. inr (eqb-true b 0x09 h)) (or_cases (eqb b 0x20) (eqb b 0x09) (not-false (eqb b 0x20 || eqb b 0x09) e))
 
-no_blank : (b : ℕ) → is_of NotBlank b ≡ true → Blank b → ⊥
+no_blank : (b : ℕ) → not_blank b ≡ true → Blank b → ⊥
 no_blank b e h =
     let parts = or_parts (eqb b 0x20) (eqb b 0x09) (not-true (eqb b 0x20 || eqb b 0x09) e) in
     ⊎_elim (eqb-false b 0x20 parts.0) (eqb-false b 0x09 parts.1) h
 
-from_no_blank : (b : ℕ) → (Blank b → ⊥) → is_of NotBlank b ≡ true
+from_no_blank : (b : ℕ) → (Blank b → ⊥) → not_blank b ≡ true
 from_no_blank b h =
     not_from_false (eqb b 0x20 || eqb b 0x09) (or_from (eqb b 0x20) (eqb b 0x09) (ne_eqb b 0x20 (λ e. h (inl e))) (ne_eqb b 0x09 (λ e. h (inr e))))
 
 -- dashes
 pub dashes_are : (s : List ℕ) (p : ℕ) → p ≤ length s → Dashes s p (dash_end s p)
 dashes_are s p l = record {
-  low = first_low (at NotDash s) p (length s);
-  high = first_high (at NotDash s) p (length s) l;
-  dashes = λ k a b. is_dash_lem (get_or s k 0) (first_before (at NotDash s) p (length s) k a b);
-  all = λ h. no_dash (get_or s (dash_end s p) 0) (first_hit (at NotDash s) p (length s) l h.0) h.1;
+  low = first_low (at not_dash s) p (length s);
+  high = first_high (at not_dash s) p (length s) l;
+  dashes = λ k a b. is_dash_lem (get_or s k 0) (first_before (at not_dash s) p (length s) k a b);
+  all = λ h. no_dash (get_or s (dash_end s p) 0) (first_hit (at not_dash s) p (length s) l h.0) h.1;
 }
 
 pub dashes_only : (s : List ℕ) (p e : ℕ) → Dashes s p e → e ≡ dash_end s p
 dashes_only s p e d =
-    first_unique (at NotDash s) p (length s) e d.low d.high
+    first_unique (at not_dash s) p (length s) e d.low d.high
     (λ k a b. from_dash (get_or s k 0) (d.dashes k a b))
     (λ l. from_no_dash (get_or s e 0) (λ h. d.all (l, h)))
 
 -- lines
 pub line_is : (s : List ℕ) (p : ℕ) → p ≤ length s → Line s p (line_end s p)
 line_is s p l = record {
-  low = first_low (at LineFeed s) p (length s);
-  high = first_high (at LineFeed s) p (length s) l;
-  same = λ k a b. eqb-false (get_or s k 0) 0x0A (first_before (at LineFeed s) p (length s) k a b);
-  ends = λ h. eqb-true (get_or s (line_end s p) 0) 0x0A (first_hit (at LineFeed s) p (length s) l h);
+  low = first_low (at line_feed s) p (length s);
+  high = first_high (at line_feed s) p (length s) l;
+  same = λ k a b. eqb-false (get_or s k 0) 0x0A (first_before (at line_feed s) p (length s) k a b);
+  ends = λ h. eqb-true (get_or s (line_end s p) 0) 0x0A (first_hit (at line_feed s) p (length s) l h);
 }
 
 pub line_only : (s : List ℕ) (p e : ℕ) → Line s p e → e ≡ line_end s p
 line_only s p e d =
-    first_unique (at LineFeed s) p (length s) e d.low d.high
+    first_unique (at line_feed s) p (length s) e d.low d.high
     (λ k a b h. d.same k a b (eqb-true (get_or s k 0) 0x0A h))
     (λ l. eq-eqb (get_or s e 0) 0x0A (d.ends l))
 
@@ -94,24 +93,24 @@ blank_is s p l =
     record {
       end = w;
       space = white_is s p l;
-      low = last_low (at LineFeed s) p w;
-      high = last_high (at LineFeed s) p w low;
-      lines = ⊎_elim (λ (h : p < blank_end s p). inr (h, eqb-true (get_or s (blank_end s p - 1) 0) 0x0A (last_hit (at LineFeed s) p w h))) (λ (h : blank_end s p ≤ p). inl (omega (arith, last_low (at LineFeed s) p w))) (cases_lt p (blank_end s p));
-      all = λ k a b. eqb-false (get_or s k 0) 0x0A (last_after (at LineFeed s) p w k low a b);
+      low = last_low (at line_feed s) p w;
+      high = last_high (at line_feed s) p w low;
+      lines = ⊎_elim (λ (h : p < blank_end s p). inr (h, eqb-true (get_or s (blank_end s p - 1) 0) 0x0A (last_hit (at line_feed s) p w h))) (λ (h : blank_end s p ≤ p). inl (omega (arith, last_low (at line_feed s) p w))) (cases_lt p (blank_end s p));
+      all = λ k a b. eqb-false (get_or s k 0) 0x0A (last_after (at line_feed s) p w k low a b);
     }
 
 pub blank_only : (s : List ℕ) (p q : ℕ) → BlankLines s p q → q ≡ blank_end s p
 blank_only s p q d =
     let w = white_only s p d.end d.space in
-    last_unique (at LineFeed s) p d.end q d.low d.high
+    last_unique (at line_feed s) p d.end q d.low d.high
     (λ l. ⊎_elim (λ (none : q ≡ p). absurd (omega arith)) (λ h. eq-eqb (get_or s (q - 1) 0) 0x0A h.1) d.lines)
     (λ k a b h. d.all k a b (eqb-true (get_or s k 0) 0x0A h))
-    ∙ ap (past_last (at LineFeed s) p) w
+    ∙ ap (past_last (at line_feed s) p) w
 
 -- lines that begin with dashes
 pub begins_is : (s : List ℕ) (n k : ℕ) → k < length s → closes_at s n k ≡ true → Begins s n k
 begins_is s n k l e =
-    let both = and_parts (at LineFeed s k) (leb (k + 1 + n) (dash_end s (k + 1))) e in
+    let both = and_parts (at line_feed s k) (leb (k + 1 + n) (dash_end s (k + 1))) e in
     let run = dashes_are s (k + 1) (omega arith) in
     let far = leb-true (k + 1 + n) (dash_end s (k + 1)) both.1 in
     record {
@@ -129,7 +128,7 @@ begins_only s n k d =
     (λ (short : e < k + 1 + n). absurd (run.all (omega (arith, d.room), d.dashes e run.low short)))
     (λ (long : k + 1 + n ≤ e). long)
     (cases_lt e (k + 1 + n)) in
-    and_from (at LineFeed s k) (leb (k + 1 + n) e) (eq-eqb (get_or s k 0) 0x0A d.feed.1) (le-leb (k + 1 + n) e far)
+    and_from (at line_feed s k) (leb (k + 1 + n) e) (eq-eqb (get_or s k 0) 0x0A d.feed.1) (le-leb (k + 1 + n) e far)
 
 pub first_line_is : (s : List ℕ) (n l : ℕ) → l ≤ length s → close_from s n l < length s → FirstLine s n l (close_from s n l)
 first_line_is s n l h found = record {
@@ -163,44 +162,44 @@ begins_fewer s m n k l d = record {
 }
 
 -- text without blanks at both ends
-text_by : (s : List ℕ) (p e : ℕ) (b : Bool) → p ≤ e → ltb (first (at NotBlank s) p e) (past_last (at NotBlank s) p e) ≡ b → Text s p e (cond b (Some (span (first (at NotBlank s) p e) (past_last (at NotBlank s) p e))) None)
+text_by : (s : List ℕ) (p e : ℕ) (b : Bool) → p ≤ e → ltb (first (at not_blank s) p e) (past_last (at not_blank s) p e) ≡ b → Text s p e (cond b (Some (span (first (at not_blank s) p e) (past_last (at not_blank s) p e))) None)
 text_by s p e true l t =
-    let a = first (at NotBlank s) p e in
-    let z = past_last (at NotBlank s) p e in
+    let a = first (at not_blank s) p e in
+    let z = past_last (at not_blank s) p e in
     let some = ltb-true a z t in
-    let a_low = first_low (at NotBlank s) p e in
-    let z_high = last_high (at NotBlank s) p e l in (
+    let a_low = first_low (at not_blank s) p e in
+    let z_high = last_high (at not_blank s) p e l in (
       a_low,
       some,
       z_high,
-      (λ k x y. is_blank (get_or s k 0) (first_before (at NotBlank s) p e k x y)),
-      (λ k x y. is_blank (get_or s k 0) (last_after (at NotBlank s) p e k l x y)),
-      no_blank (get_or s a 0) (first_hit (at NotBlank s) p e l (omega arith)),
-      no_blank (get_or s (z - 1) 0) (last_hit (at NotBlank s) p e (omega arith)),
+      (λ k x y. is_blank (get_or s k 0) (first_before (at not_blank s) p e k x y)),
+      (λ k x y. is_blank (get_or s k 0) (last_after (at not_blank s) p e k l x y)),
+      no_blank (get_or s a 0) (first_hit (at not_blank s) p e l (omega arith)),
+      no_blank (get_or s (z - 1) 0) (last_hit (at not_blank s) p e (omega arith)),
     )
 text_by s p e false l t =
     λ k x y.
-    let a = first (at NotBlank s) p e in
-    let z = past_last (at NotBlank s) p e in
+    let a = first (at not_blank s) p e in
+    let z = past_last (at not_blank s) p e in
     let none = ltb-false a z t in
     ⊎_elim
-    (λ (before : k < a). is_blank (get_or s k 0) (first_before (at NotBlank s) p e k x before))
-    (λ (after : a ≤ k). is_blank (get_or s k 0) (last_after (at NotBlank s) p e k l (omega arith) y))
+    (λ (before : k < a). is_blank (get_or s k 0) (first_before (at not_blank s) p e k x before))
+    (λ (after : a ≤ k). is_blank (get_or s k 0) (last_after (at not_blank s) p e k l (omega arith) y))
     (cases_lt k a)
 
 pub text_is : (s : List ℕ) (p e : ℕ) → p ≤ e → Text s p e (text s p e)
-text_is s p e l = text_by s p e (ltb (first (at NotBlank s) p e) (past_last (at NotBlank s) p e)) l refl
+text_is s p e l = text_by s p e (ltb (first (at not_blank s) p e) (past_last (at not_blank s) p e)) l refl
 
 pub text_only : (s : List ℕ) (p e : ℕ) (o : Option Span) → p ≤ e → Text s p e o → o ≡ text s p e
 text_only s p e (Some t) l d =
-    let a = first_unique (at NotBlank s) p e t.start d.0 (omega (arith, d.1, d.2)) (λ k x y h. no_blank (get_or s k 0) h (d.3 k x y)) (λ _. from_no_blank (get_or s t.start 0) d.5) in
-    let z = last_unique (at NotBlank s) p e t.end (omega (arith, d.0, d.1)) d.2 (λ _. from_no_blank (get_or s (t.end - 1) 0) d.6) (λ k x y h. no_blank (get_or s k 0) h (d.4 k x y)) in
-    let is : t ≡ span (first (at NotBlank s) p e) (past_last (at NotBlank s) p e) = ap (λ x. span x t.end) a ∙ ap (span (first (at NotBlank s) p e)) z in
-    ap Some is ∙ sym (cond-true (ltb (first (at NotBlank s) p e) (past_last (at NotBlank s) p e)) (Some (span (first (at NotBlank s) p e) (past_last (at NotBlank s) p e))) None (lt-ltb (first (at NotBlank s) p e) (past_last (at NotBlank s) p e) (omega (arith, a, z, d.1))))
+    let a = first_unique (at not_blank s) p e t.start d.0 (omega (arith, d.1, d.2)) (λ k x y h. no_blank (get_or s k 0) h (d.3 k x y)) (λ _. from_no_blank (get_or s t.start 0) d.5) in
+    let z = last_unique (at not_blank s) p e t.end (omega (arith, d.0, d.1)) d.2 (λ _. from_no_blank (get_or s (t.end - 1) 0) d.6) (λ k x y h. no_blank (get_or s k 0) h (d.4 k x y)) in
+    let is : t ≡ span (first (at not_blank s) p e) (past_last (at not_blank s) p e) = ap (λ x. span x t.end) a ∙ ap (span (first (at not_blank s) p e)) z in
+    ap Some is ∙ sym (cond-true (ltb (first (at not_blank s) p e) (past_last (at not_blank s) p e)) (Some (span (first (at not_blank s) p e) (past_last (at not_blank s) p e))) None (lt-ltb (first (at not_blank s) p e) (past_last (at not_blank s) p e) (omega (arith, a, z, d.1))))
 text_only s p e None l d =
-    let a = first_unique (at NotBlank s) p e e l (omega arith) (λ k x y h. no_blank (get_or s k 0) h (d k x y)) (λ h. absurd (omega arith)) in
-    let z = last_unique (at NotBlank s) p e p (omega arith) l (λ h. absurd (omega arith)) (λ k x y h. no_blank (get_or s k 0) h (d k x y)) in
-    sym (cond-false (ltb (first (at NotBlank s) p e) (past_last (at NotBlank s) p e)) (Some (span (first (at NotBlank s) p e) (past_last (at NotBlank s) p e))) None (le-ltb (first (at NotBlank s) p e) (past_last (at NotBlank s) p e) (omega (arith, a, z))))
+    let a = first_unique (at not_blank s) p e e l (omega arith) (λ k x y h. no_blank (get_or s k 0) h (d k x y)) (λ h. absurd (omega arith)) in
+    let z = last_unique (at not_blank s) p e p (omega arith) l (λ h. absurd (omega arith)) (λ k x y h. no_blank (get_or s k 0) h (d k x y)) in
+    sym (cond-false (ltb (first (at not_blank s) p e) (past_last (at not_blank s) p e)) (Some (span (first (at not_blank s) p e) (past_last (at not_blank s) p e))) None (le-ltb (first (at not_blank s) p e) (past_last (at not_blank s) p e) (omega (arith, a, z))))
 
 -- without one final CR
 cr_by : (s : List ℕ) (p e : ℕ) (a b : Bool) → ltb p e ≡ a → eqb (get_or s (e - 1) 0) 0x0D ≡ b → LessCr s p e (cond (a && b) (e - 1) e)

@@ -6,3 +6,4 @@ pub mod Fences
 pub mod Reads
 pub mod Placed
 pub mod Parsing
+pub mod Texts

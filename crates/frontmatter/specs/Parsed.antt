@@ -2,7 +2,6 @@
 use Rattle.std.specs.Prelude.{ℕ, ◌+◌, ◌-◌, Bool, cond, not, ◌&&◌, List, length, Some, None, Ok, Err, Option, Result, ◌==◌, nat_lt, slice_index}
 use Rattle.script.specs.Sequences.{run_end}
 use Rattle.script.specs.WhiteTable.{white}
-use Rattle.frontmatter.specs.declared.find.Class.TheVariants.{NotBlank}
 use Rattle.frontmatter.specs.declared.reader.Close.{Close}
 use Rattle.frontmatter.specs.declared.parse.Opening.{Opening}
 use Rattle.frontmatter.specs.declared.source.Span.{Span}
@@ -11,7 +10,7 @@ use Rattle.frontmatter.specs.declared.source.FaultKind.{FaultKind}
 use Rattle.frontmatter.specs.declared.source.FaultKind.TheVariants.{TooFewDashes, Unclosed, FewerDashes, MoreDashes, TextAfterClose, SecondFence}
 use Rattle.frontmatter.specs.declared.source.Fault.{Fault}
 use Rattle.frontmatter.specs.Searches.{first, past_last}
-use Rattle.frontmatter.specs.Lines.{at, line_end, next_line, dash_end, blank_end, without_cr}
+use Rattle.frontmatter.specs.Lines.{not_blank, at, line_end, next_line, dash_end, blank_end, without_cr}
 use Rattle.frontmatter.specs.Closes.{close_of}
 
 abbrev pub Answer : Type 0
@@ -36,7 +35,7 @@ body_start s = cond (is_shebang s) (next_line s 0) 0
 
 -- the text from p up to e without blanks at both ends, if any is left
 abbrev pub text : List ℕ → ℕ → ℕ → Option Span
-text s p e = cond (nat_lt (first (at NotBlank s) p e) (past_last (at NotBlank s) p e)) (Some (span (first (at NotBlank s) p e) (past_last (at NotBlank s) p e))) None
+text s p e = cond (nat_lt (first (at not_blank s) p e) (past_last (at not_blank s) p e)) (Some (span (first (at not_blank s) p e) (past_last (at not_blank s) p e))) None
 
 -- a script without a fence
 abbrev pub plain : List ℕ → Option Span → ℕ → Answer

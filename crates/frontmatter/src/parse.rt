@@ -6,7 +6,7 @@ ghost use Rattle.frontmatter.specs.Placed.{Placed};
 ghost use Rattle.frontmatter.specs.Reads.{Reads};
 ghost use Rattle.frontmatter.specs.Parsed.{Answer, span, is_shebang, shebang, body_start, text, close_text, content, closed, unclosed, opened, opening, parsed};
 
-use crate::find::{Class, find, find_back};
+use crate::find::{find, find_back, line_end};
 use crate::reader::Reader;
 use crate::source::{Failure, Fault, FaultKind, ScriptSource, Span};
 use script::{Script, white_end};
@@ -39,7 +39,7 @@ fn next_line(bytes: &[u8], from: usize) -> usize
     ensures low { from ≤ result }
     ensures high { result ≤ length bytes.now }
 {
-    let end = find(bytes, Class::LineFeed, from, bytes.len());
+    let end = line_end(bytes, from);
     if end < bytes.len() { end + 1 } else { end }
 }
 
@@ -62,13 +62,9 @@ fn trimmed(bytes: &[u8], from: usize, end: usize) -> Option<Span>
     requires { (from ≤ end) × (end ≤ length bytes.now) }
     ensures { result ≡ text bytes.now from end }
 {
-    let start = find(bytes, Class::NotBlank, from, end);
-    let end = find_back(bytes, Class::NotBlank, from, end);
-    if start < end {
-        Some(Span { start, end })
-    } else {
-        None
-    }
+    let start = find(bytes, from, end, |byte| byte != b' ' && byte != b'\t');
+    let end = find_back(bytes, from, end, |byte| byte != b' ' && byte != b'\t');
+    (start < end).then_some(Span { start, end })
 }
 
 // The text on the closing line after its fence, which ends at `from`.
@@ -76,7 +72,7 @@ fn close_text(bytes: &[u8], from: usize) -> Option<Span>
     requires { from ≤ length bytes.now }
     ensures { result ≡ close_text bytes.now from }
 {
-    let end = find(bytes, Class::LineFeed, from, bytes.len());
+    let end = line_end(bytes, from);
     if end < bytes.len() {
         trimmed(bytes, from, without_cr(bytes, from, end))
     } else {
@@ -172,7 +168,7 @@ fn read_fenced(
     ensures { result ≡ opened reader.old.bytes.now shebang fence }
 {
     let bytes = reader.bytes;
-    let line_end = find(bytes, Class::LineFeed, fence.end, bytes.len());
+    let line_end = line_end(bytes, fence.end);
     if line_end == bytes.len() {
         return Err(unclosed_fault(bytes, fence));
     }
@@ -225,7 +221,8 @@ impl ScriptSource {
         ensures only { (a : Result ScriptSource Failure) → Parses bytes.now a → a ≡ result }
         ensures placed { PlacedIn bytes.now result }
     {
-        right_of_bytes(bytes, read_bytes(bytes))
+        let script = Script::admit(bytes)?;
+        Ok(ScriptSource::of_script(&script)?)
     }
 
     // The parts of an admitted script.
@@ -235,41 +232,8 @@ impl ScriptSource {
         ensures only { (a : Answer) → Reads script.now.bytes.now a → a ≡ result }
         ensures placed { Placed script.now.bytes.now result }
     {
-        right(script, read_script(script.bytes()))
+        read_script(script.bytes())
     }
-}
-
-// Gives the answer back with what it means.
-fn right(script: &Script, answer: Result<ScriptSource, Fault>) -> Result<ScriptSource, Fault>
-    requires { answer ≡ parsed script.now.bytes.now }
-    ensures value { result ≡ parsed script.now.bytes.now }
-    ensures reads { Reads script.now.bytes.now result }
-    ensures only { (a : Answer) → Reads script.now.bytes.now a → a ≡ result }
-    ensures placed { Placed script.now.bytes.now result }
-{
-    answer
-}
-
-// Gives the answer back with what it means.
-fn right_of_bytes(
-    bytes: &[u8],
-    answer: Result<ScriptSource, Failure>,
-) -> Result<ScriptSource, Failure>
-    requires { answer ≡ parsing bytes.now }
-    ensures value { result ≡ parsing bytes.now }
-    ensures parses { Parses bytes.now result }
-    ensures only { (a : Result ScriptSource Failure) → Parses bytes.now a → a ≡ result }
-    ensures placed { PlacedIn bytes.now result }
-{
-    answer
-}
-
-fn read_bytes(bytes: &[u8]) -> Result<ScriptSource, Failure>
-    ensures { result ≡ parsing bytes.now }
-{
-    let admission = Script::admit(bytes);
-    admission.checked()?;
-    Ok(read_script(admission.script.bytes())?)
 }
 
 fn read_script(bytes: &[u8]) -> Result<ScriptSource, Fault>

@@ -1,10 +1,9 @@
 // The reader of a script, and the search for the fence that closes a frontmatter.
 ghost use Rattle.std.specs.Prelude.{◌≡◌, ℕ, ◌+◌, ◌<◌, ◌≤◌, true, length, IfSome};
-ghost use Rattle.frontmatter.specs.declared.find.Class.TheVariants.{LineFeed};
-ghost use Rattle.frontmatter.specs.Lines.{at, dash_end, blank_end, closes_at};
+ghost use Rattle.frontmatter.specs.Lines.{line_feed, at, dash_end, blank_end, closes_at};
 ghost use Rattle.frontmatter.specs.Closes.{trial_of, close_of};
 
-use crate::find::{Class, find, find_back};
+use crate::find::{dash_end, find_back};
 use crate::source::Span;
 use script::white_end;
 
@@ -49,7 +48,7 @@ impl Reader<'_> {
         ensures bytes { self.new.bytes.now ≡ self.old.bytes.now }
     {
         let start = self.at;
-        self.at = find(self.bytes, Class::NotDash, start, self.bytes.len());
+        self.at = dash_end(self.bytes, start);
         Span {
             start,
             end: self.at,
@@ -65,13 +64,13 @@ impl Reader<'_> {
         ensures bytes { self.new.bytes.now ≡ self.old.bytes.now }
     {
         let end = white_end(self.bytes, self.at);
-        self.at = find_back(self.bytes, Class::LineFeed, self.at, end);
+        self.at = find_back(self.bytes, self.at, end, |byte| byte == b'\n');
     }
 
     // The first LF from the place on that has as many dashes after it, where there is one. The reader stays.
     // No LF from there on has more than `most` dashes after it.
     fn trial(&mut self, dashes: usize, most: usize) -> Option<usize>
-        requires { (k : ℕ) → self.old.at ≤ k → k < length self.old.bytes.now → at LineFeed self.old.bytes.now k ≡ true → dash_end self.old.bytes.now (k + 1) ≤ k + 1 + most }
+        requires { (k : ℕ) → self.old.at ≤ k → k < length self.old.bytes.now → at line_feed self.old.bytes.now k ≡ true → dash_end self.old.bytes.now (k + 1) ≤ k + 1 + most }
         ensures value { result ≡ trial_of self.old.bytes.now dashes self.old.at }
         ensures after { self.new.at ≡ self.old.at }
         ensures bytes { self.new.bytes.now ≡ self.old.bytes.now }
@@ -103,12 +102,10 @@ impl Reader<'_> {
         ensures bytes { self.new.bytes.now ≡ self.old.bytes.now }
     {
         let most = most_dashes(self.bytes, self.at);
-        let mut n = dashes;
-        while n > 0 {
+        for n in (1..=dashes).rev() {
             if let Some(at) = self.trial(n, most) {
                 return Some(Close { at, dashes: n });
             }
-            n -= 1;
         }
         None
     }
@@ -122,18 +119,18 @@ fn closes(bytes: &[u8], place: usize, dashes: usize) -> bool
     if bytes[place] != b'\n' {
         return false;
     }
-    let end = find(bytes, Class::NotDash, place + 1, bytes.len());
+    let end = dash_end(bytes, place + 1);
     dashes <= end - (place + 1)
 }
 
 // A number of dashes that no LF from the place on has more than after it: it tells which trials cannot succeed.
 fn most_dashes(bytes: &[u8], from: usize) -> usize
-    ensures { (k : ℕ) → from ≤ k → k < length bytes.now → at LineFeed bytes.now k ≡ true → dash_end bytes.now (k + 1) ≤ k + 1 + result }
+    ensures { (k : ℕ) → from ≤ k → k < length bytes.now → at line_feed bytes.now k ≡ true → dash_end bytes.now (k + 1) ≤ k + 1 + result }
 {
     let mut most = 0;
     for place in from..bytes.len() {
         if bytes[place] == b'\n' {
-            let end = find(bytes, Class::NotDash, place + 1, bytes.len());
+            let end = dash_end(bytes, place + 1);
             most = most.max(end - (place + 1));
         }
     }

@@ -1,9 +1,11 @@
 // What a script's frontmatter is found to be.
-ghost use Rattle.std.specs.Prelude.{◌≡◌};
+ghost use Rattle.std.specs.Prelude.{◌≡◌, Some};
 ghost use Rattle.frontmatter.specs.declared.source.Failure.TheVariants as failure;
 ghost use Rattle.frontmatter.specs.Parsing.{letter};
+ghost use Rattle.frontmatter.specs.Texts.{span_text, meaning_of};
 
 use script::Refusal;
+use std::fmt;
 
 // The bytes from `start` up to `end`.
 #[derive(Clone, Copy, Debug, PartialEq, Eq)]
@@ -12,8 +14,17 @@ pub struct Span {
     pub end: usize,
 }
 
+impl fmt::Display for Span {
+    ghost output = { λ span. Some (span_text span) };
+
+    fn fmt<W: fmt::Write>(&self, f: &mut fmt::Formatter<W>) -> fmt::Result {
+        let Span { start, end } = *self;
+        write!(f, "{start}..{end}")
+    }
+}
+
 // The parts of a script. Without a fence, only the shebang and the content are there.
-#[derive(Clone, Copy)]
+#[derive(Clone, Copy, Debug, PartialEq, Eq)]
 pub struct ScriptSource {
     pub shebang: Option<Span>,
     pub open: Option<Span>,
@@ -23,7 +34,7 @@ pub struct ScriptSource {
     pub content: Span,
 }
 
-#[derive(Clone, Copy)]
+#[derive(Clone, Copy, Debug, PartialEq, Eq)]
 pub enum FaultKind {
     TooFewDashes,
     Unclosed,
@@ -34,7 +45,7 @@ pub enum FaultKind {
 }
 
 // A fence that breaks the rules. `primary` is where; `open` and `close` are the fences to show beside it.
-#[derive(Clone, Copy)]
+#[derive(Clone, Copy, Debug, PartialEq, Eq)]
 pub struct Fault {
     pub kind: FaultKind,
     pub primary: Span,
@@ -42,7 +53,7 @@ pub struct Fault {
     pub close: Option<Span>,
 }
 
-#[derive(Clone, Copy)]
+#[derive(Clone, Copy, Debug, PartialEq, Eq)]
 pub enum Failure {
     Refused(Refusal),
     Faulty(Fault),
@@ -77,5 +88,21 @@ impl FaultKind {
             FaultKind::TextAfterClose => 'E',
             FaultKind::SecondFence => 'F',
         }
+    }
+}
+
+// What the fault is, in plain words.
+impl fmt::Display for FaultKind {
+    ghost output = { λ kind. Some (meaning_of kind) };
+
+    fn fmt<W: fmt::Write>(&self, f: &mut fmt::Formatter<W>) -> fmt::Result {
+        f.write_str(match *self {
+            FaultKind::TooFewDashes => "fewer than three dashes open no frontmatter",
+            FaultKind::Unclosed => "the frontmatter is never closed",
+            FaultKind::FewerDashes => "the closing fence has fewer dashes than the opening one",
+            FaultKind::MoreDashes => "the closing fence has more dashes than the opening one",
+            FaultKind::TextAfterClose => "text follows the closing fence",
+            FaultKind::SecondFence => "a second frontmatter follows",
+        })
     }
 }

@@ -7,6 +7,3 @@ invariant-loop-n l =
     (l.self.at ≡ l.initial.self.at)
     × (l.self.bytes.now ≡ l.initial.self.bytes.now)
     × (close_of l.self.bytes.now l.self.at l.n ≡ close_of l.self.bytes.now l.self.at l.dashes)
-
-abbrev pub decreases-loop-n : goal.decreases-loop-n
-decreases-loop-n l = l.n
