@@ -1,6 +1,6 @@
 -- The answer for any bytes is the one that the relation allows. Assumes nothing.
-use Rattle.std.proofs.Common.{◌≡◌, ℕ, true, List, Some, None, Ok, Err, Option, Result, sym, refl, ap, ◌∙◌, subst}
-use Rattle.script.specs.Admission.{refusal, admits, Judged}
+use Rattle.std.proofs.Common.{◌≡◌, ℕ, List, Some, None, Ok, Err, Option, Result, sym, refl, ap, ◌∙◌, subst}
+use Rattle.script.specs.Admission.{refusal, Judged}
 use Rattle.script.specs.declared.refusal.Refusal.{Refusal}
 use Rattle.script.proofs.Judges.{judged, judged_only}
 use Rattle.frontmatter.specs.declared.source.ScriptSource.{ScriptSource}
@@ -8,9 +8,8 @@ use Rattle.frontmatter.specs.declared.source.Failure.{Failure}
 use Rattle.frontmatter.specs.declared.source.Failure.TheVariants.{Refused, Faulty}
 use Rattle.frontmatter.specs.Parsed.{Answer, parsed}
 use Rattle.frontmatter.specs.Reads.{Reads}
-use Rattle.frontmatter.specs.Parsing.{read, answer, parsing, Parses, PlacedIn}
+use Rattle.frontmatter.specs.Parsing.{read, answer, parsing, Parses}
 use Rattle.frontmatter.proofs.Right.{sound, only}
-use Rattle.frontmatter.proofs.Places.{placed}
 
 read_parses : (bs : List ℕ) (a : Answer) → Judged bs None → Reads bs a → Parses bs (read a)
 read_parses bs (Ok r) j d = (j, d)

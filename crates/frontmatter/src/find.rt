@@ -20,7 +20,12 @@ pub(crate) fn find<F: Fn(u8) -> bool>(bytes: &[u8], from: usize, end: usize, pas
 }
 
 // The place after the last byte from `from` on, before `end`, that passes; `from` where there is none.
-pub(crate) fn find_back<F: Fn(u8) -> bool>(bytes: &[u8], from: usize, end: usize, passes: F) -> usize
+pub(crate) fn find_back<F: Fn(u8) -> bool>(
+    bytes: &[u8],
+    from: usize,
+    end: usize,
+    passes: F,
+) -> usize
     requires range { (from ≤ end) × (end ≤ length bytes.now) }
     requires callable { F.IsAlwaysCallable passes }
     ensures value { (t : ℕ → Bool) → ((b : ℕ) (r : Bool) → F.post passes b r → r ≡ t b) → result ≡ past_last (at t bytes.now) from end }

@@ -1,10 +1,10 @@
 // The frontmatter of a script, rule by rule.
-ghost use Rattle.std.specs.Prelude.{◌≡◌, ◌+◌, ◌<◌, ◌≤◌, length, Err, Result};
+ghost use Rattle.std.specs.Prelude.{◌≡◌, ◌+◌, ◌<◌, ◌≤◌, length, None, Err, Result};
 ghost use Rattle.frontmatter.specs.Lines.{line_end, next_line, without_cr};
 ghost use Rattle.frontmatter.specs.Parsing.{parsing, Parses, PlacedIn};
 ghost use Rattle.frontmatter.specs.Placed.{Placed};
 ghost use Rattle.frontmatter.specs.Reads.{Reads};
-ghost use Rattle.frontmatter.specs.Parsed.{Answer, span, is_shebang, shebang, body_start, text, close_text, content, closed, unclosed, opened, opening, parsed};
+ghost use Rattle.frontmatter.specs.Parsed.{Answer, span, is_shebang, shebang, body_start, text, close_text, content, closed, fault, opened, opening, parsed};
 
 use crate::find::{find, find_back, line_end};
 use crate::reader::Reader;
@@ -25,11 +25,7 @@ struct Opening {
 fn is_shebang(bytes: &[u8]) -> bool
     ensures { result ≡ is_shebang bytes.now }
 {
-    if bytes.len() < 2 || bytes[0] != b'#' || bytes[1] != b'!' {
-        return false;
-    }
-    let next = white_end(bytes, 2);
-    next >= bytes.len() || bytes[next] != b'['
+    matches!(bytes, [b'#', b'!', ..]) && bytes.get(white_end(bytes, 2)) != Some(&b'[')
 }
 
 // Where the next line begins; the script's end where there is none.
@@ -39,8 +35,7 @@ fn next_line(bytes: &[u8], from: usize) -> usize
     ensures low { from ≤ result }
     ensures high { result ≤ length bytes.now }
 {
-    let end = line_end(bytes, from);
-    if end < bytes.len() { end + 1 } else { end }
+    (line_end(bytes, from) + 1).min(bytes.len())
 }
 
 // The end of the text from `from` on that ends at `end`, without one final CR.
@@ -50,10 +45,9 @@ fn without_cr(bytes: &[u8], from: usize, end: usize) -> usize
     ensures low { from ≤ result }
     ensures high { result ≤ end }
 {
-    if from < end && bytes[end - 1] == b'\r' {
-        end - 1
-    } else {
-        end
+    match &bytes[from..end] {
+        [.., b'\r'] => end - 1,
+        _ => end,
     }
 }
 
@@ -62,8 +56,9 @@ fn trimmed(bytes: &[u8], from: usize, end: usize) -> Option<Span>
     requires { (from ≤ end) × (end ≤ length bytes.now) }
     ensures { result ≡ text bytes.now from end }
 {
-    let start = find(bytes, from, end, |byte| byte != b' ' && byte != b'\t');
-    let end = find_back(bytes, from, end, |byte| byte != b' ' && byte != b'\t');
+    let is_text = |byte| byte != b' ' && byte != b'\t';
+    let start = find(bytes, from, end, is_text);
+    let end = find_back(bytes, from, end, is_text);
     (start < end).then_some(Span { start, end })
 }
 
@@ -80,135 +75,138 @@ fn close_text(bytes: &[u8], from: usize) -> Option<Span>
     }
 }
 
-// The shebang, and where the script goes on after it.
-fn read_shebang(reader: &mut Reader) -> Option<Span>
-    requires { reader.old.at ≡ 0 }
-    ensures value { result ≡ shebang reader.old.bytes.now }
-    ensures after { reader.new.at ≡ body_start reader.old.bytes.now }
-    ensures high { reader.new.at ≤ length reader.old.bytes.now }
-    ensures bytes { reader.new.bytes.now ≡ reader.old.bytes.now }
-{
-    if !is_shebang(reader.bytes) {
-        return None;
+impl Reader<'_> {
+    // The shebang, and where the script goes on after it.
+    fn read_shebang(&mut self) -> Option<Span>
+        requires { self.old.at ≡ 0 }
+        ensures value { result ≡ shebang self.old.bytes.now }
+        ensures after { self.new.at ≡ body_start self.old.bytes.now }
+        ensures high { self.new.at ≤ length self.old.bytes.now }
+        ensures bytes { self.new.bytes.now ≡ self.old.bytes.now }
+    {
+        if !is_shebang(self.bytes) {
+            return None;
+        }
+        let end = next_line(self.bytes, 0);
+        self.at = end;
+        Some(Span { start: 0, end })
     }
-    let end = next_line(reader.bytes, 0);
-    reader.at = end;
-    Some(Span { start: 0, end })
-}
 
-// The reader stands after the closing line. Past blank lines, dashes open a second fence.
-fn read_content(reader: &mut Reader, opening: Opening, close: Span) -> Result<ScriptSource, Fault>
-    requires { (reader.old.at ≤ length reader.old.bytes.now) × (opening.end < length reader.old.bytes.now) }
-    ensures { result ≡ content reader.old.bytes.now opening close reader.old.at }
-{
-    let content = Span {
-        start: reader.at,
-        end: reader.bytes.len(),
-    };
-    reader.skip_blank_lines();
-    let dashes = reader.dashes();
-    if dashes.start < dashes.end {
-        return Err(Fault {
-            kind: FaultKind::SecondFence,
-            primary: dashes,
-            open: opening.fence,
+    // The reader stands after the closing line. Past blank lines, dashes open a second fence.
+    fn read_content(&mut self, opening: Opening, close: Span) -> Result<ScriptSource, Fault>
+        requires { (self.old.at ≤ length self.old.bytes.now) × (opening.end < length self.old.bytes.now) }
+        ensures { result ≡ content self.old.bytes.now opening close self.old.at }
+    {
+        let content = Span {
+            start: self.at,
+            end: self.bytes.len(),
+        };
+        self.skip_blank_lines();
+        let dashes = self.dashes();
+        if dashes.start < dashes.end {
+            return Err(Fault {
+                kind: FaultKind::SecondFence,
+                primary: dashes,
+                open: opening.fence,
+                close: Some(close),
+            });
+        }
+        Ok(ScriptSource {
+            shebang: opening.shebang,
+            open: Some(opening.fence),
+            info: opening.info,
+            frontmatter: Some(Span {
+                start: opening.end + 1,
+                end: close.start,
+            }),
             close: Some(close),
-        });
+            content,
+        })
     }
-    Ok(ScriptSource {
-        shebang: opening.shebang,
-        open: Some(opening.fence),
-        info: opening.info,
-        frontmatter: Some(Span {
-            start: opening.end + 1,
-            end: close.start,
-        }),
-        close: Some(close),
-        content,
-    })
-}
 
-// The reader stands after a closing fence with as many dashes as the opening one.
-fn read_close_line(
-    reader: &mut Reader,
-    opening: Opening,
-    close: Span,
-) -> Result<ScriptSource, Fault>
-    requires { (reader.old.at ≡ close.end) × ((close.end ≤ length reader.old.bytes.now) × (opening.end < length reader.old.bytes.now)) }
-    ensures { result ≡ closed reader.old.bytes.now opening close }
-{
-    let extra = reader.dashes();
-    if extra.start < extra.end {
-        return Err(Fault {
-            kind: FaultKind::MoreDashes,
-            primary: extra,
-            open: opening.fence,
-            close: None,
-        });
+    // The reader stands after a closing fence with as many dashes as the opening one.
+    fn read_close_line(&mut self, opening: Opening, close: Span) -> Result<ScriptSource, Fault>
+        requires { (self.old.at ≡ close.end) × ((close.end ≤ length self.old.bytes.now) × (opening.end < length self.old.bytes.now)) }
+        ensures { result ≡ closed self.old.bytes.now opening close }
+    {
+        let extra = self.dashes();
+        if extra.start < extra.end {
+            return Err(fault(FaultKind::MoreDashes, extra, opening.fence));
+        }
+        if let Some(text) = close_text(self.bytes, close.end) {
+            return Err(fault(FaultKind::TextAfterClose, text, opening.fence));
+        }
+        self.at = next_line(self.bytes, close.end);
+        self.read_content(opening, close)
     }
-    if let Some(text) = close_text(reader.bytes, close.end) {
-        return Err(Fault {
-            kind: FaultKind::TextAfterClose,
-            primary: text,
-            open: opening.fence,
-            close: None,
-        });
-    }
-    reader.at = next_line(reader.bytes, close.end);
-    read_content(reader, opening, close)
-}
 
-// The reader stands after an opening fence of three dashes or more.
-fn read_fenced(
-    reader: &mut Reader,
-    shebang: Option<Span>,
-    fence: Span,
-) -> Result<ScriptSource, Fault>
-    requires { (reader.old.at ≡ fence.end) × ((fence.start ≤ fence.end) × (fence.end ≤ length reader.old.bytes.now)) }
-    ensures { result ≡ opened reader.old.bytes.now shebang fence }
-{
-    let bytes = reader.bytes;
-    let line_end = line_end(bytes, fence.end);
-    if line_end == bytes.len() {
-        return Err(unclosed_fault(bytes, fence));
-    }
-    let info = trimmed(bytes, fence.end, without_cr(bytes, fence.end, line_end));
-    reader.at = line_end;
-    let Some(found) = reader.find_close(fence.end - fence.start) else {
-        return Err(unclosed_fault(bytes, fence));
-    };
-    let close = Span {
-        start: found.at + 1,
-        end: found.at + 1 + found.dashes,
-    };
-    if found.dashes < fence.end - fence.start {
-        return Err(Fault {
-            kind: FaultKind::FewerDashes,
-            primary: close,
-            open: fence,
-            close: None,
-        });
-    }
-    reader.at = close.end;
-    read_close_line(
-        reader,
-        Opening {
+    // The reader stands after an opening fence of three dashes or more.
+    fn read_fenced(&mut self, shebang: Option<Span>, fence: Span) -> Result<ScriptSource, Fault>
+        requires { (self.old.at ≡ fence.end) × ((fence.start ≤ fence.end) × (fence.end ≤ length self.old.bytes.now)) }
+        ensures { result ≡ opened self.old.bytes.now shebang fence }
+    {
+        let bytes = self.bytes;
+        let unclosed = fault(FaultKind::Unclosed, at_end(bytes), fence);
+        let end = line_end(bytes, fence.end);
+        if end == bytes.len() {
+            return Err(unclosed);
+        }
+        let info = trimmed(bytes, fence.end, without_cr(bytes, fence.end, end));
+        self.at = end;
+        let found = self.find_close(fence.len()).ok_or(unclosed)?;
+        let close = Span {
+            start: found.at + 1,
+            end: found.at + 1 + found.dashes,
+        };
+        if found.dashes < fence.len() {
+            return Err(fault(FaultKind::FewerDashes, close, fence));
+        }
+        self.at = close.end;
+        let opening = Opening {
             shebang,
             fence,
             info,
-            end: line_end,
-        },
-        close,
-    )
+            end,
+        };
+        self.read_close_line(opening, close)
+    }
+
+    // The reader stands after the dashes with which the first line that is not blank begins.
+    fn read_opening(
+        &mut self,
+        shebang: Option<Span>,
+        body: usize,
+        fence: Span,
+    ) -> Result<ScriptSource, Fault>
+        requires { (self.old.at ≡ fence.end) × ((fence.start ≤ fence.end) × (fence.end ≤ length self.old.bytes.now)) }
+        ensures { result ≡ opening self.old.bytes.now shebang body fence }
+    {
+        match fence.len() {
+            0 => Ok(ScriptSource {
+                shebang,
+                open: None,
+                info: None,
+                frontmatter: None,
+                close: None,
+                content: Span {
+                    start: body,
+                    end: self.bytes.len(),
+                },
+            }),
+            1 | 2 => Err(fault(FaultKind::TooFewDashes, at_end(self.bytes), fence)),
+            _ => self.read_fenced(shebang, fence),
+        }
+    }
 }
 
-fn unclosed_fault(bytes: &[u8], fence: Span) -> Fault
-    ensures { Err result ≡ unclosed bytes.now fence }
+// A fault with no closing fence to show.
+fn fault(kind: FaultKind, primary: Span, open: Span) -> Fault
+    ensures { Err result ≡ fault kind primary «open» None }
 {
     Fault {
-        kind: FaultKind::Unclosed,
-        primary: at_end(bytes),
-        open: fence,
+        kind,
+        primary,
+        open,
         close: None,
     }
 }
@@ -240,43 +238,11 @@ fn read_script(bytes: &[u8]) -> Result<ScriptSource, Fault>
     ensures { result ≡ parsed bytes.now }
 {
     let mut reader = Reader { bytes, at: 0 };
-    let shebang = read_shebang(&mut reader);
+    let shebang = reader.read_shebang();
     let body = reader.at;
     reader.skip_blank_lines();
     let fence = reader.dashes();
-    read_opening(&mut reader, shebang, body, fence)
-}
-
-// The reader stands after the dashes with which the first line that is not blank begins.
-fn read_opening(
-    reader: &mut Reader,
-    shebang: Option<Span>,
-    body: usize,
-    fence: Span,
-) -> Result<ScriptSource, Fault>
-    requires { (reader.old.at ≡ fence.end) × ((fence.start ≤ fence.end) × (fence.end ≤ length reader.old.bytes.now)) }
-    ensures { result ≡ opening reader.old.bytes.now shebang body fence }
-{
-    match fence.end - fence.start {
-        0 => Ok(ScriptSource {
-            shebang,
-            open: None,
-            info: None,
-            frontmatter: None,
-            close: None,
-            content: Span {
-                start: body,
-                end: reader.bytes.len(),
-            },
-        }),
-        1 | 2 => Err(Fault {
-            kind: FaultKind::TooFewDashes,
-            primary: at_end(reader.bytes),
-            open: fence,
-            close: None,
-        }),
-        _ => read_fenced(reader, shebang, fence),
-    }
+    reader.read_opening(shebang, body, fence)
 }
 
 // The empty span at the script's end.

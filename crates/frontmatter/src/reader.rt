@@ -84,6 +84,7 @@ impl Reader<'_> {
         if most < dashes {
             return None;
         }
+        // The reader's own place moves, and the guard puts it back: no iterator over places would.
         while *trial.at < bytes.len() {
             if closes(bytes, *trial.at, dashes) {
                 return Some(*trial.at);
@@ -130,8 +131,7 @@ fn most_dashes(bytes: &[u8], from: usize) -> usize
     let mut most = 0;
     for place in from..bytes.len() {
         if bytes[place] == b'\n' {
-            let end = dash_end(bytes, place + 1);
-            most = most.max(end - (place + 1));
+            most = most.max(dash_end(bytes, place + 1) - (place + 1));
         }
     }
     most

@@ -1,7 +1,8 @@
 // What a script's frontmatter is found to be.
-ghost use Rattle.std.specs.Prelude.{◌≡◌, Some};
+ghost use Rattle.std.specs.Prelude.{◌≡◌, ◌≤◌, Some};
 ghost use Rattle.frontmatter.specs.declared.source.Failure.TheVariants as failure;
 ghost use Rattle.frontmatter.specs.Parsing.{letter};
+ghost use Rattle.frontmatter.specs.Reads.{size};
 ghost use Rattle.frontmatter.specs.Texts.{span_text, meaning_of};
 
 use script::Refusal;
@@ -12,6 +13,15 @@ use std::fmt;
 pub struct Span {
     pub start: usize,
     pub end: usize,
+}
+
+impl Span {
+    pub(crate) fn len(self) -> usize
+        requires { self.start ≤ self.end }
+        ensures { result ≡ size self }
+    {
+        self.end - self.start
+    }
 }
 
 impl fmt::Display for Span {

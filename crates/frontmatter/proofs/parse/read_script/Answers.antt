@@ -9,7 +9,7 @@ returns c =
     let first = c.read_shebang-shebang.ensures in
     let skip = c.skip_blank_lines.ensures in
     let dashes = c.dashes-fence.ensures in
-    let body = c.read_shebang-shebang.new.reader.at in
+    let body = c.read_shebang-shebang.new.self.at in
     let same1 = first.bytes in
     let same2 = skip.bytes ∙ same1 in
     whole s c.dashes-fence.new.self.bytes.now c.read_shebang-shebang.result body c.dashes-fence.result c.read_opening.result
