@@ -13,7 +13,7 @@ use Rattle.lexed_str.specs.declared.error.LexError.{LexError}
 use Rattle.converter.specs.declared.progress.Progress.{Progress}
 use Rattle.converter.specs.declared.complaint.Complaint.{Complaint}
 use Rattle.converter.specs.Codes.{codes_of, complaint_of, settled, said}
-use Rattle.converter.specs.Columns.{put, held, Reached}
+use Rattle.converter.specs.Columns.{put, held}
 use Rattle.converter.specs.Cuts.{cut}
 use Rattle.converter.specs.Meaning.{meaning}
 use Rattle.converter.specs.Hints.{suspect, hint}
@@ -41,6 +41,9 @@ hint_take bs ks ss n (suc looks) (suc m) end l =
 same_lexed : (a a' b b' : List ℕ) (c c' : List LexError) (p p' : ℕ) → a ≡ a' → b ≡ b' → c ≡ c' → p ≡ p'
     → ◌≡◌ {A = Lexed} (record { kinds = a; starts = b; errors = c; place = p }) (record { kinds = a'; starts = b'; errors = c'; place = p' })
 same_lexed a a' b b' c c' p p' ea eb ec ep = cc
+
+pub same_held : (ks ks' ss ss' : List ℕ) (es es' : List LexError) (p p' : Progress) → ks ≡ ks' → ss ≡ ss' → es ≡ es' → p ≡ p' → held ks ss es p ≡ held ks' ss' es' p'
+same_held ks ks' ss ss' es es' p p' a b c d = cc
 
 -- where a token t, of its kind and with its codes, has been written
 pub extended : (bs ks ss : List ℕ) (es es' : List LexError) (faults : List EscapeError) (edition : ℕ) (n e p kind written : ℕ) (t : RawToken)
@@ -80,7 +83,7 @@ pub written_out : (bs xs ks ss : List ℕ) (es es' : List LexError) (tokens : �
     → xs ≡ bs → t ≡ cut edition (tokens sf.place)
     → kind ≡ kind_of edition (between sf.place (sf.place + t.len) xs) t.kind
     → first ≡ complaint_of t.kind
-    → last ≡ settled (hint xs ks ss 5 sf.tokens sf.place) (between sf.place (sf.place + t.len) xs) first
+    → last ≡ settled (hint bs ks ss 5 sf.tokens sf.place) (between sf.place (sf.place + t.len) xs) first
     → written ≡ sf.errors + length (said (faults sf.place) last)
     → es' ≡ put sf.errors (map (lex_error sf.tokens) (said (faults sf.place) last)) es
     → held (set ks sf.tokens kind) (set ss sf.tokens sf.place) es' (record { tokens = sf.tokens + 1; errors = written; place = sf.place + t.len })
@@ -90,7 +93,7 @@ written_out bs xs ks ss es es' tokens faults shebang edition sf kind written t f
     let p = sf.place in
     let e = sf.errors in
     let codes : last ≡ settled (hint bs ks ss 5 n p) (between p (p + t.len) bs) (complaint_of t.kind) =
-    c₂ ∙ ap (λ x. settled (hint xs ks ss 5 n p) (between p (p + t.len) xs) x) c₁ ∙ ap (λ b. settled (hint b ks ss 5 n p) (between p (p + t.len) b) (complaint_of t.kind)) same in
+    c₂ ∙ ap (λ x. settled (hint bs ks ss 5 n p) (between p (p + t.len) xs) x) c₁ ∙ ap (λ b. settled (hint bs ks ss 5 n p) (between p (p + t.len) b) (complaint_of t.kind)) same in
     extended bs ks ss es es' (faults p) edition n e p kind written t lk ls le
     (of ∙ ap (λ b. kind_of edition (between p (p + t.len) b) t.kind) same)
     (to ∙ ap (λ x. e + length (said (faults p) x)) codes)
@@ -101,27 +104,12 @@ written_out bs xs ks ss es es' tokens faults shebang edition sf kind written t f
 pub said_few : (bs xs ks ss : List ℕ) (faults : List EscapeError) (sf : Progress) (t : RawToken) (first last : Complaint)
     → Stands bs sf.place t (length faults)
     → first ≡ complaint_of t.kind
-    → last ≡ settled (hint xs ks ss 5 sf.tokens sf.place) (between sf.place (sf.place + t.len) xs) first
+    → last ≡ settled (hint bs ks ss 5 sf.tokens sf.place) (between sf.place (sf.place + t.len) xs) first
     → length (said faults last) ≤ t.len
 said_few bs xs ks ss faults sf t first last s c₁ c₂ =
-    let h = hint xs ks ss 5 sf.tokens sf.place in
+    let h = hint bs ks ss 5 sf.tokens sf.place in
     let text = between sf.place (sf.place + t.len) xs in
     omega (arith, codes_few bs sf.place t h text faults s, ap (λ c. length (said faults c)) (c₂ ∙ ap (settled h text) c₁))
-
--- how far the columns have come then
-pub reached : (bs xs ks ss : List ℕ) (faults : List EscapeError) (sf : Progress) (written : ℕ) (t : RawToken) (first last : Complaint)
-    → Reached bs sf → Stands bs sf.place t (length faults)
-    → first ≡ complaint_of t.kind
-    → last ≡ settled (hint xs ks ss 5 sf.tokens sf.place) (between sf.place (sf.place + t.len) xs) first
-    → written ≡ sf.errors + length (said faults last)
-    → Reached bs (record { tokens = sf.tokens + 1; errors = written; place = sf.place + t.len })
-reached bs xs ks ss faults sf written t first last h s c₁ c₂ to =
-    record {
-      boundary_there = s.ends;
-      within = s.within;
-      tokens_few = omega (arith, h.tokens_few, s.some);
-      errors_few = omega (arith, h.errors_few, said_few bs xs ks ss faults sf t first last s c₁ c₂, to);
-    }
 
 pub begins_there : (bs : List ℕ) (p : ℕ) → p < length bs → boundary bs p ≡ true → begins bs p ≡ true
 begins_there bs p l on = grind (arith, nat_tests)

@@ -1,6 +1,7 @@
 -- The head's tokens stand one after the other, at boundaries.
 use Rattle.std.proofs.Common.{◌≡◌, ℕ, ◌+◌, ◌<◌, ◌≤◌, true, false, ◌&&◌, ◌||◌, eqb, leb, List, length, Some, None, Ok, Err, Option, sym, ap, ◌∙◌, subst, ⊎_elim, arith, leb-true}
 use Rattle.std.proofs.lemmas.Bool.{and_parts, cond_both}
+use Rattle.std.specs.Prelude.{MatchOption, IsSomeAnd}
 use Rattle.script.specs.Admission.{admits}
 use Rattle.script.specs.Places.{boundary}
 use Rattle.script.proofs.Bounds.{ascii_after, boundary_end}
@@ -64,6 +65,17 @@ module _ (bs : List ℕ) (a : admits bs ≡ true) where
         shebang = cond_both (eqb n 0) None (Some n) (EndsPast bs 0) (λ yes. tt) (λ no. let h = rest no in (omega (arith, h.0), h.1, h.2));
         frontmatter = tt;
       }
+
+-- what `map` gives of a span that may be there
+pub mapped_end : (o : Option Span) (r : Option ℕ) (P : Span → ℕ → Type 0) → ((x : Span) (y : ℕ) → P x y → y ≡ x.end) → MatchOption o (r ≡ None) (λ x. IsSomeAnd r (P x)) → r ≡ line_end o
+mapped_end None r P calls h = h
+mapped_end (Some x) None P calls h = absurd h
+mapped_end (Some x) (Some y) P calls h = ap (λ z. Some z) (calls x y h)
+
+pub mapped_start : (o : Option Span) (content : ℕ) (r : Option ℕ) (P : Span → ℕ → Type 0) → ((x : Span) (y : ℕ) → P x y → y ≡ content) → MatchOption o (r ≡ None) (λ x. IsSomeAnd r (P x)) → r ≡ content_start o content
+mapped_start None content r P calls h = h
+mapped_start (Some x) content None P calls h = absurd h
+mapped_start (Some x) content (Some y) P calls h = ap (λ z. Some z) (calls x y h)
 
 -- as the code has it: from the bytes xs that were asked for
 pub parts_head : (bs xs : List ℕ) (r : ScriptSource) (n : ℕ) (sh fm : Option ℕ) → admits bs ≡ true → xs ≡ bs → Ok r ≡ parsed xs → Reads xs (Ok r) → sh ≡ line_end r.shebang → fm ≡ content_start r.frontmatter r.content.start

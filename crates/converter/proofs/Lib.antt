@@ -16,3 +16,4 @@ pub mod Proper
 pub mod Readable
 pub mod Telling
 pub mod Writing
+pub mod Converted

@@ -13,6 +13,7 @@ use Rattle.converter.specs.Message.{message_code}
 use Rattle.std.specs.List.{between}
 use Rattle.raw.specs.declared.kinds.RawToken.{RawToken}
 use Rattle.converter.specs.declared.complaint.Complaint.{Complaint}
+use Rattle.converter.specs.declared.complaint.Complaint.TheVariants.{Silent, Says, First, Every, Prefix}
 use Rattle.converter.specs.Codes.{complaint_of, settled, said}
 use Rattle.converter.specs.Hints.{hint}
 use Rattle.converter.specs.Kinds.{kind_of}
@@ -85,3 +86,11 @@ single_some m edition xs t kind code first last w same is of c₁ c₂ c₃ =
     let said_last : last ≡ settled false (between 0 (0 + t.len) bs) (complaint_of t.kind) = c₂ ∙ ap (settled false (between 0 t.len xs)) c₁ ∙ ap (λ x. settled false x (complaint_of t.kind)) text in
     let c : code ≡ last_of (codes_at m edition [] [] 0 0) = c₃ ∙ ap (λ x. last_of (said (m.faults 0) x)) said_last ∙ ap (λ (y : RawToken). last_of (said (m.faults 0) (settled false (between 0 (0 + y.len) bs) (complaint_of y.kind)))) is in
     ap (λ x. Some (x, code)) k ∙ ap (λ x. Some (kind_at m edition 0, x)) c ∙ sym (ap (λ b. cond b (Some (kind_at m edition 0, last_of (codes_at m edition [] [] 0 0))) None) w)
+
+-- but for an unknown prefix, there is nothing to settle
+pub unsettled : (hint : Bool) (text : List ℕ) (c : Complaint) → (c ≡ Prefix → ⊥) → c ≡ settled hint text c
+unsettled hint text Silent h = refl
+unsettled hint text (Says m) h = refl
+unsettled hint text (First m) h = refl
+unsettled hint text (Every m) h = refl
+unsettled hint text Prefix h = absurd (h refl)

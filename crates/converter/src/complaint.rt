@@ -1,13 +1,9 @@
 // What there is to say of a token.
-ghost use Rattle.std.specs.Prelude.{◌≡◌, ◌≤◌, length};
-ghost use Rattle.std.specs.Str.{bytes_eq};
+ghost use Rattle.std.specs.Prelude.{◌≡◌};
 ghost use Rattle.converter.specs.Codes.{say_if, literal_complaint, complaint_of, settled};
-ghost use Rattle.converter.specs.Hints.{hint};
 
-use crate::hint::has_likely_unterminated_string;
 use crate::message::Message;
 use crate::messages::Mode;
-use crate::progress::Progress;
 use raw::{LiteralKind, RawKind};
 
 #[derive(Clone, Copy, Debug, PartialEq, Eq)]
@@ -84,36 +80,15 @@ fn say_if(wrong: bool, message: Message) -> Complaint
     }
 }
 
-// Of an unknown prefix the hint is that a string among the last five tokens is likely unterminated; `builtin` is a
-// prefix that the parser knows.
-pub(crate) fn settle(
-    complaint: Complaint,
-    text: &[u8],
-    script: &[u8],
-    kinds: &[u16],
-    starts: &[u32],
-    so_far: Progress,
-) -> Complaint
-    requires { (so_far.tokens ≤ length kinds.now) × (so_far.tokens ≤ length starts.now) }
-    ensures { result ≡ settled (hint script.now kinds.now starts.now 5 so_far.tokens so_far.place) text.now complaint }
+// An unknown prefix may follow from a string that is likely unterminated; `builtin` is a prefix that the parser knows.
+pub(crate) fn unknown_prefix(text: &[u8], near_string: bool) -> Complaint
+    ensures { result ≡ settled near_string text.now Complaint.Prefix }
 {
-    match complaint {
-        Complaint::Prefix => {
-            if text == b"builtin".as_slice() {
-                Complaint::Silent
-            } else if has_likely_unterminated_string(
-                script,
-                kinds,
-                starts,
-                5,
-                so_far.tokens,
-                so_far.place,
-            ) {
-                Complaint::Says(Message::UnknownPrefixNearString)
-            } else {
-                Complaint::Says(Message::UnknownPrefix)
-            }
-        }
-        other => other,
+    if text == b"builtin".as_slice() {
+        Complaint::Silent
+    } else if near_string {
+        Complaint::Says(Message::UnknownPrefixNearString)
+    } else {
+        Complaint::Says(Message::UnknownPrefix)
     }
 }

@@ -8,13 +8,11 @@ ghost use Rattle.converter.specs.Meaning.{meaning};
 ghost use Rattle.converter.specs.Outcome.{outcome, written, kinds_of, starts_of};
 ghost use Rattle.converter.specs.Refusals.{refusal};
 
-use crate::convert::extend_all;
-use crate::head::write_head;
+use crate::convert::Converter;
 use crate::refusal::Refusal;
 use lexed_str::LexError;
 use raw::RawSource;
 use syntax_kind::Edition;
-use syntax_kind::kinds::EOF;
 
 // How many tokens there are, the end's entry not counted, and how many errors.
 #[derive(Clone, Copy, Debug, PartialEq, Eq)]
@@ -45,31 +43,8 @@ pub fn lex<S: RawSource>(
     if kinds.len() <= len || starts.len() <= len || errors.len() < len {
         return Err(Refusal::Columns);
     }
-    Ok(convert(source, edition, kinds, starts, errors))
-}
-
-fn convert<S: RawSource>(
-    source: &S,
-    edition: Edition,
-    kinds: &mut [u16],
-    starts: &mut [u32],
-    errors: &mut [LexError],
-) -> Counts
-    requires { (length (S.RawSource.script source.now) < length kinds.old) × (length (S.RawSource.script source.now) < length starts.old) × (length (S.RawSource.script source.now) ≤ length errors.old) }
-    ensures answer { (result.tokens ≡ length (lexed (meaning (S.RawSource.script source.now) (S.RawSource.token source.now) (S.RawSource.faults source.now) (S.RawSource.shebang source.now)) (edition_number edition)).kinds) × (result.errors ≡ length (lexed (meaning (S.RawSource.script source.now) (S.RawSource.token source.now) (S.RawSource.faults source.now) (S.RawSource.shebang source.now)) (edition_number edition)).errors) }
-    ensures kinds { kinds.new ≡ over (kinds_of (lexed (meaning (S.RawSource.script source.now) (S.RawSource.token source.now) (S.RawSource.faults source.now) (S.RawSource.shebang source.now)) (edition_number edition))) kinds.old }
-    ensures starts { starts.new ≡ over (starts_of (lexed (meaning (S.RawSource.script source.now) (S.RawSource.token source.now) (S.RawSource.faults source.now) (S.RawSource.shebang source.now)) (edition_number edition))) starts.old }
-    ensures errors { errors.new ≡ over (lexed (meaning (S.RawSource.script source.now) (S.RawSource.token source.now) (S.RawSource.faults source.now) (S.RawSource.shebang source.now)) (edition_number edition)).errors errors.old }
-    ensures law { Keeps (meaning (S.RawSource.script source.now) (S.RawSource.token source.now) (S.RawSource.faults source.now) (S.RawSource.shebang source.now)) (edition_number edition) (Ok result) kinds.new starts.new errors.new }
-    ensures only { Only (meaning (S.RawSource.script source.now) (S.RawSource.token source.now) (S.RawSource.faults source.now) (S.RawSource.shebang source.now)) (edition_number edition) (Ok result) kinds.new starts.new errors.new }
-    ensures readable { Readable (meaning (S.RawSource.script source.now) (S.RawSource.token source.now) (S.RawSource.faults source.now) (S.RawSource.shebang source.now)) (Ok result) kinds.new starts.new errors.new }
-{
-    let head = write_head(source, kinds, starts);
-    let end = extend_all(source, edition, kinds, starts, errors, head);
-    kinds[end.tokens] = EOF;
-    starts[end.tokens] = end.place as u32;
-    Counts {
-        tokens: end.tokens,
-        errors: end.errors,
-    }
+    let mut converter = Converter::new(source, edition, kinds, starts, errors);
+    converter.extend_head();
+    converter.extend_all();
+    Ok(converter.finish())
 }

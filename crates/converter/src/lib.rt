@@ -4,7 +4,6 @@
 mod complaint;
 mod convert;
 mod cut;
-mod errors;
 mod extend;
 mod faults;
 mod head;

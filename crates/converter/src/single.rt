@@ -5,11 +5,10 @@ ghost use Rattle.syntax_kind.specs.Editions.{edition_number};
 ghost use Rattle.converter.specs.Meaning.{meaning};
 ghost use Rattle.converter.specs.Single.{single, single_answer, whole, Single};
 
-use crate::complaint::{complaint_of, settle};
+use crate::complaint::{Complaint, complaint_of, unknown_prefix};
 use crate::extend::{raw_token_at, token_at};
 use crate::kind::kind_of;
 use crate::message::Message;
-use crate::progress::Progress;
 use crate::refusal::Refusal;
 use crate::said::Said;
 use raw::RawSource;
@@ -37,12 +36,11 @@ fn single<S: RawSource>(source: &S, edition: Edition) -> Option<(u16, Option<u16
     let token = token_at(source, edition, 0);
     let end = token.len as usize;
     let text = &bytes[0..end];
-    let start = Progress {
-        tokens: 0,
-        errors: 0,
-        place: 0,
+    // No token stands before it.
+    let complaint = match complaint_of(token.kind) {
+        Complaint::Prefix => unknown_prefix(text, false),
+        other => other,
     };
-    let complaint = settle(complaint_of(token.kind), text, bytes, &[], &[], start);
     Some((
         kind_of(edition, text, token.kind),
         Said::of(source, 0, complaint).last().map(Message::code),
