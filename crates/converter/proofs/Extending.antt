@@ -1,9 +1,9 @@
 -- One token more in the columns is one token more of the definition.
-use Rattle.std.proofs.Common.{◌≡◌, ℕ, zero, suc, ◌+◌, ◌<◌, ◌≤◌, true, cond, ◌||◌, List, [], ◌∷◌, ◌++◌, map, length, get_or, take, drop, set, Ok, Err, Result, sym, refl, ap, ◌∙◌, arith}
+use Rattle.std.proofs.Common.{◌≡◌, ℕ, zero, suc, ◌+◌, ◌<◌, ◌≤◌, true, cond, ◌||◌, List, [], ◌∷◌, ◌++◌, map, length, get_or, take, set, Ok, Err, Result, sym, refl, ap, ◌∙◌, arith}
 use Rattle.std.specs.List.{between}
 use Rattle.std.proofs.lemmas.Bool.Decides.{nat_tests}
 use Rattle.script.specs.Places.{boundary}
-use Rattle.std.proofs.lemmas.List.{take_more_set, drop-set-lt, length-take-le, get_or-take, length-map}
+use Rattle.std.proofs.lemmas.List.{take_more_set, length-take-le, get_or-take, length-map}
 use Rattle.raw.specs.Answers.{begins, token_answer}
 use Rattle.raw.specs.declared.Refusal.{Refusal}
 use Rattle.raw.specs.declared.Refusal.TheVariants.{NoToken}
@@ -20,7 +20,7 @@ use Rattle.converter.specs.Hints.{suspect, hint}
 use Rattle.converter.specs.Kinds.{kind_of}
 use Rattle.converter.specs.Lexing.{Lexed, lex_error, add, extend}
 use Rattle.converter.proofs.Cutting.{Stands, codes_few}
-use Rattle.converter.proofs.Puts.{take_put, drop_put}
+use Rattle.converter.proofs.Puts.{take_put}
 
 pub answered : (bs : List ℕ) (token : ℕ → RawToken) (p : ℕ) (t : RawToken) (r : Result RawToken Refusal) → begins bs p ≡ true → r ≡ Ok t → r ≡ token_answer bs token p → t ≡ token p
 answered bs token p t r on is e =
@@ -69,13 +69,6 @@ extended bs ks ss es es' faults edition n e p kind written t lk ls le is to put_
     (take_more_set ss n p ls)
     (errors ∙ ap (λ h. take e es ++ map (lex_error n) (codes_of h text t.kind faults)) (sym hinted) ∙ ap (λ k. take e es ++ map (lex_error k) (codes_of (hint bs (take n ks) (take n ss) 5 (length (take n ks)) p) text t.kind faults)) (sym long))
     refl
-
--- the rest of a column that was written at n
-pub rest_set : {X : Type 0} (xs : List X) (n : ℕ) (v : X) → drop (n + 1) (set xs n v) ≡ drop (n + 1) xs
-rest_set xs n v = drop-set-lt (n + 1) xs n v (omega arith)
-
-pub rest_put : (es es' : List LexError) (e written : ℕ) (xs : List LexError) → e ≤ length es → written ≡ e + length xs → es' ≡ put e xs es → drop written es' ≡ drop written es
-rest_put es es' e written xs l to is = ap (λ k. drop k es') to ∙ ap (drop (e + length xs)) is ∙ drop_put e xs es l ∙ ap (λ k. drop k es) (sym to)
 
 -- as the code has it: from the bytes xs that were asked for, the token t that was given, and what is said of it
 pub written_out : (bs xs ks ss : List ℕ) (es es' : List LexError) (tokens : ℕ → RawToken) (faults : ℕ → List EscapeError) (shebang edition : ℕ) (sf : Progress) (kind written : ℕ) (t : RawToken) (first last : Complaint)

@@ -5,7 +5,6 @@ pub mod Cutting
 pub mod Extending
 pub mod Running
 pub mod Heads
-pub mod Heading
 pub mod Finishing
 pub mod Singles
 pub mod Rows

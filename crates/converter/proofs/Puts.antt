@@ -1,6 +1,6 @@
 -- Columns, written piece by piece.
 use Rattle.std.proofs.Common.{◌≡◌, ℕ, ◌+◌, ◌≤◌, List, [], ◌++◌, length, take, drop, ap, ◌∙◌, arith}
-use Rattle.std.proofs.lemmas.List.{append-nil, take-append-drop, length-append, length-take-le, take_at, drop_at}
+use Rattle.std.proofs.lemmas.List.{append-nil, take-append-drop, length-append, length-take-le, take_at}
 use Rattle.converter.specs.Columns.{put}
 
 module _ {X : Type 0} where
@@ -14,6 +14,3 @@ module _ {X : Type 0} where
 
   pub take_put : (n : ℕ) (xs col : List X) → n ≤ length col → take (n + length xs) (put n xs col) ≡ take n col ++ xs
   take_put n xs col l = take_at (take n col ++ xs) (drop (n + length xs) col) (n + length xs) (length_front n xs col l)
-
-  pub drop_put : (n : ℕ) (xs col : List X) → n ≤ length col → drop (n + length xs) (put n xs col) ≡ drop (n + length xs) col
-  drop_put n xs col l = drop_at (take n col ++ xs) (drop (n + length xs) col) (n + length xs) (length_front n xs col l)

@@ -14,9 +14,6 @@ pub record Sofar (m : Meaning) (edition : ℕ) (ks ss : List ℕ) (es : List Lex
   pub kept : Kept ks ss ks' ss' es es' now
   pub more : (from.tokens ≤ now.tokens) × (from.errors ≤ now.errors)
 
-pub nothing_yet : (m : Meaning) (edition : ℕ) (ks ss : List ℕ) (es : List LexError) (from : Progress) → Reached m.script from → Sofar m edition ks ss es from ks ss es from
-nothing_yet m edition ks ss es from r = record { reached = r; left = refl; kept = record { kinds = refl; starts = refl; errors = refl }; more = (omega arith, omega arith) }
-
 all_more : (m : Meaning) (edition n : ℕ) (l : Lexed) → n < length m.script → l.place < length m.script
     → extend_all m edition (length m.script - n) l ≡ extend_all m edition (length m.script - (n + 1)) (extend m edition l)
 all_more m edition n l few there =
