@@ -3,6 +3,7 @@ use Rattle.std.proofs.Common.{◌≡◌, ℕ, ◌+◌, ◌-◌, ◌<◌, ◌≤�
 use Rattle.std.specs.List.{between, flat_map}
 use Rattle.std.proofs.lemmas.List.{flat_map_more}
 use Rattle.std.proofs.ByRecursion.{All-push}
+use Rattle.std.proofs.lemmas.Bool.Decides.{nat_tests}
 use Rattle.std.proofs.lemmas.Bool.{and_parts, and_from, ltb-true, lt-ltb, le-leb}
 use Rattle.script.specs.Admission.{most, admits}
 use Rattle.script.specs.Sequences.{sequence, Sequence}
@@ -36,12 +37,10 @@ pub character_keeps : (bs : List ℕ) (p : ℕ) → admits bs ≡ true → begin
 character_keeps bs p a e =
     let both = and_parts (ltb p (length bs)) (boundary bs p) e in
     let l = ltb-true p (length bs) both.0 in
-    let b = both.1 in
     let n = sequence utf8 bs p in
-    and_from (ltb 0 n && (leb (p + n) (length bs) && boundary bs (p + n))) (true && leb 0 n)
-    (and_from (ltb 0 n) (leb (p + n) (length bs) && boundary bs (p + n)) (lt-ltb 0 n (some_bytes bs p a l b))
-    (and_from (leb (p + n) (length bs)) (boundary bs (p + n)) (le-leb (p + n) (length bs) (ends_within bs p a l b)) (ends_at_boundary bs p a l b)))
-    (and_from true (leb 0 n) refl (le-leb 0 n (omega arith)))
+    let some = lt-ltb 0 n (some_bytes bs p a l both.1) in
+    let within = le-leb (p + n) (length bs) (ends_within bs p a l both.1) in
+    rw (some, within, ends_at_boundary bs p a l both.1, le-leb 0 n (omega arith))
 
 -- the length of a character that is answered fits 32 bits
 short_by : {E : Type 0} (bs : List ℕ) (p n : ℕ) (why : E) (b : Bool) → admits bs ≡ true → begins bs p ≡ b → cond b (Ok (sequence utf8 bs p)) (Err why) ≡ Ok n → n ≤ most

@@ -1,9 +1,9 @@
 -- Where tokens may end: after a run of bytes, after white space, before and after an ASCII byte. Assumes nothing.
 use Rattle.std.proofs.Common.{◌≡◌, ℕ, zero, suc, ◌+◌, ◌-◌, ◌<◌, ◌≤◌, Bool, true, false, cond, ◌&&◌, ◌||◌, ltb, leb, List, [], ◌∷◌, length, get_or, drop, sym, refl, ap, ◌∙◌, subst, ⊎_elim, arith}
 use lib.Utf8.{encode}
-use Rattle.std.specs.List.{prefix_len}
+use Rattle.std.specs.List.{prefix_len, list_any, list_all}
 use Rattle.std.proofs.lemmas.List.{get_or-drop, length-drop}
-use Rattle.std.proofs.lemmas.List.Sums.{prefix_len-le-length}
+use Rattle.std.proofs.lemmas.List.Sums.{prefix_len-le-length, prefix_len_passes, prefix_len_stops, AllPass-from_list_all}
 use Rattle.std.proofs.lemmas.Bool.{and_parts, and_from, or_cases, le-leb, lt-ltb, cases_lt}
 use Rattle.std.proofs.lemmas.Bool.Decides.{nat_tests}
 use Rattle.script.specs.Admission.{admits}
@@ -27,38 +27,14 @@ pub record Ends (bs : List ℕ) (p q : ℕ) : Type 0 where
   pub at : boundary bs q ≡ true
 
 -- an ordinary token that ends at such a place keeps the laws
-spelled_ordinary : (bs : List ℕ) (p n : ℕ) (t : RawToken) → form t.kind ≡ ordinary → spelled bs p n (form t.kind) ≡ true
-spelled_ordinary bs p n t e = ap (spelled bs p n) e
-
 pub ordinary_keeps : (bs : List ℕ) (p q : ℕ) (t : RawToken) → form t.kind ≡ ordinary → Ends bs p q → p + t.len ≡ q → keeps bs p t 0 ≡ true
 ordinary_keeps bs p q t o ends e =
-    let n = t.len in
-    and_from (ltb 0 n && (leb (p + n) (length bs) && boundary bs (p + n))) (spelled bs p n (form t.kind) && leb 0 n)
-    (and_from (ltb 0 n) (leb (p + n) (length bs) && boundary bs (p + n)) (lt-ltb 0 n (omega (arith, ends.some)))
-    (and_from (leb (p + n) (length bs)) (boundary bs (p + n)) (le-leb (p + n) (length bs) (omega (arith, ends.within))) (subst (λ k. boundary bs k ≡ true) (sym e) ends.at)))
-    (and_from (spelled bs p n (form t.kind)) (leb 0 n) (spelled_ordinary bs p n t o) (le-leb 0 n (omega arith)))
+    let spelled_so : spelled bs p t.len (form t.kind) ≡ true = ap (spelled bs p t.len) o in
+    let at : boundary bs (p + t.len) ≡ true = subst (λ k. boundary bs k ≡ true) (sym e) ends.at in
+    grind (arith, nat_tests)
 
--- the bytes of a run pass, and the one behind it does not
+-- a run of bytes that pass
 module _ (t : ℕ → Bool) where
-  passing_step : (x : ℕ) (xs : List ℕ) (k : ℕ) (b : Bool) → t x ≡ b → k < cond b (1 + prefix_len t xs) 0 → ((j : ℕ) → j < prefix_len t xs → t (get_or xs j 0) ≡ true) → t (get_or (x ∷ xs) k 0) ≡ true
-  passing_step x xs k false e l ih = absurd (omega arith)
-  passing_step x xs zero true e l ih = e
-  passing_step x xs (suc k) true e l ih = ih k (omega arith)
-
-  passing : (xs : List ℕ) (k : ℕ) → k < prefix_len t xs → t (get_or xs k 0) ≡ true
-  passing [] k l = absurd (omega arith)
-  passing (x ∷ xs) k l = passing_step x xs k (t x) refl l (passing xs)
-
-  stopping_step : (x : ℕ) (xs : List ℕ) (b : Bool) → t x ≡ b → cond b (1 + prefix_len t xs) 0 < suc (length xs) → (prefix_len t xs < length xs → t (get_or xs (prefix_len t xs) 0) ≡ false) → t (get_or (x ∷ xs) (cond b (1 + prefix_len t xs) 0) 0) ≡ false
-  stopping_step x xs false e l ih = e
-  stopping_step x xs true e l ih =
-      let one : suc (prefix_len t xs) ≡ 1 + prefix_len t xs = omega arith in
-      subst (λ k. t (get_or (x ∷ xs) k 0) ≡ false) one (ih (omega arith))
-
-  stopping : (xs : List ℕ) → prefix_len t xs < length xs → t (get_or xs (prefix_len t xs) 0) ≡ false
-  stopping [] l = absurd (omega arith)
-  stopping (x ∷ xs) l = stopping_step x xs (t x) refl l (stopping xs)
-
   pub run_le : (bs : List ℕ) (q : ℕ) → q ≤ length bs → q + prefix_len t (drop q bs) ≤ length bs
   run_le bs q l = omega (arith, prefix_len-le-length t (drop q bs), length-drop q bs)
 
@@ -68,7 +44,7 @@ module _ (t : ℕ → Bool) where
       let n = prefix_len t (drop q bs) in
       ⊎_elim
       (λ (some : 0 < n).
-      let last = low (get_or (drop q bs) (n - 1) 0) (passing (drop q bs) (n - 1) (omega arith)) in
+      let last = low (get_or (drop q bs) (n - 1) 0) (prefix_len_passes t (drop q bs) (n - 1) 0 (omega arith)) in
       let there : q + (n - 1) + 1 ≡ q + n = omega arith in
       subst (λ k. boundary bs k ≡ true) there
       (ascii_after bs (q + (n - 1)) a (omega (arith, run_le bs q l)) (subst (λ x. x < 128) (get_or-drop q bs (n - 1) 0) last)))
@@ -81,7 +57,7 @@ module _ (t : ℕ → Bool) where
       let n = prefix_len t (drop q bs) in
       ⊎_elim
       (λ (inside : q + n < length bs).
-      let stop = low (get_or (drop q bs) n 0) (stopping (drop q bs) (omega (arith, length-drop q bs))) in
+      let stop = low (get_or (drop q bs) n 0) (prefix_len_stops t (drop q bs) 0 (omega (arith, length-drop q bs))) in
       ascii_before bs (q + n) inside (subst (λ x. x < 128) (get_or-drop q bs n 0) stop))
       (λ (end : length bs ≤ q + n). boundary_end bs (q + n) (omega (arith, run_le bs q l)))
       (cases_lt (q + n) (length bs))
@@ -93,41 +69,31 @@ lies [] (b ∷ s) = false
 lies (a ∷ r) [] = false
 lies (a ∷ r) (b ∷ s) = (leb b.least a.least && leb a.most b.most) && lies r s
 
-abbrev lies_in : Row → List Row → Bool
-lies_in r [] = false
-lies_in r (s ∷ t) = lies r s || lies_in r t
-
-abbrev all_lie : List Row → List Row → Bool
-all_lie [] u = true
-all_lie (r ∷ t) u = lies_in r u && all_lie t u
+abbrev lies_in : List Row → Row → Bool
+lies_in u r = list_any (lies r) u
 
 holds_wider : (a b : Range) (bs : List ℕ) (p : ℕ) → (leb b.least a.least && leb a.most b.most) ≡ true → holds a bs p ≡ true → holds b bs p ≡ true
 holds_wider a b bs p d e = grind (arith, nat_tests)
 
 lies_stands : (r s : Row) (bs : List ℕ) (p : ℕ) → lies r s ≡ true → stands r bs p ≡ true → (stands s bs p ≡ true) × (length r ≡ length s)
 lies_stands [] [] bs p d e = (refl, refl)
-lies_stands [] (b ∷ s) bs p d e = let z : ◌≡◌ {A = ℕ} 0 1 = cc in absurd (omega arith)
-lies_stands (a ∷ r) [] bs p d e = let z : ◌≡◌ {A = ℕ} 0 1 = cc in absurd (omega arith)
+lies_stands [] (b ∷ s) bs p d e = cc
+lies_stands (a ∷ r) [] bs p d e = cc
 lies_stands (a ∷ r) (b ∷ s) bs p d e =
     let x = and_parts (leb b.least a.least && leb a.most b.most) (lies r s) d in
     let y = and_parts (holds a bs p) (stands r bs (p + 1)) e in
     let rest = lies_stands r s bs (p + 1) x.1 y.1 in
     (and_from (holds b bs p) (stands s bs (p + 1)) (holds_wider a b bs p x.0 y.0) rest.0, ap suc rest.1)
 
-found_in : (r : Row) (u : List Row) (bs : List ℕ) (p : ℕ) → lies_in r u ≡ true → stands r bs p ≡ true → (k : ℕ) × (k < length u) × (stands (get_or u k []) bs p ≡ true) × (length r ≡ length (get_or u k []))
-found_in r [] bs p d e = let z : ◌≡◌ {A = ℕ} 0 1 = cc in absurd (omega arith)
+found_in : (r : Row) (u : List Row) (bs : List ℕ) (p : ℕ) → lies_in u r ≡ true → stands r bs p ≡ true → (k : ℕ) × (k < length u) × (stands (get_or u k []) bs p ≡ true) × (length r ≡ length (get_or u k []))
+found_in r [] bs p d e = cc
 found_in r (s ∷ u) bs p d e =
     ⊎_elim
     (λ h. let both = lies_stands r s bs p h e in (0, omega arith, both.0, both.1))
     (λ h. let k = found_in r u bs p h e in (suc k.0, omega (arith, k.1), k.2, k.3))
-    (or_cases (lies r s) (lies_in r u) d)
+    (or_cases (lies r s) (lies_in u r) d)
 
-lie_at : (t u : List Row) (k : ℕ) → k < length t → all_lie t u ≡ true → lies_in (get_or t k []) u ≡ true
-lie_at [] u k l e = absurd (omega arith)
-lie_at (r ∷ t) u zero l e = (and_parts (lies_in r u) (all_lie t u) e).0
-lie_at (r ∷ t) u (suc k) l e = lie_at t u k (omega arith) (and_parts (lies_in r u) (all_lie t u) e).1
-
-white_lies : all_lie white utf8 ≡ true
+white_lies : list_all (lies_in utf8) white ≡ true
 unfolding encode
 white_lies = refl
 
@@ -135,7 +101,7 @@ white_lies = refl
 white_character : (bs : List ℕ) (p : ℕ) → 0 < sequence white bs p → sequence utf8 bs p ≡ sequence white bs p
 white_character bs p some =
     let row = found_row white bs p some in
-    let k = found_in (get_or white row.0 []) utf8 bs p (lie_at white utf8 row.0 row.1 white_lies) row.2 in
+    let k = found_in (get_or white row.0 []) utf8 bs p (AllPass-from_list_all (lies_in utf8) white white_lies row.0 [] row.1) row.2 in
     utf8_fair.found k.0 k.1 bs p k.2 ∙ (sym k.3 ∙ sym row.3)
 
 -- white space ends at a boundary where it begins at one

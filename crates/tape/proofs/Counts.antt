@@ -2,6 +2,7 @@
 use Rattle.std.proofs.Common.{◌≡◌, ℕ, zero, suc, ◌+◌, ◌<◌, ◌≤◌, Bool, true, false, cond, ◌&&◌, leb, List, [], ◌∷◌, map, length, get_or, drop, sym, refl, ap, ◌∙◌, subst, ⊎_elim, arith}
 use lib.ListN.{length-map}
 use Rattle.std.proofs.lemmas.List.{drop_more, drop_all, get_or-map}
+use Rattle.std.proofs.lemmas.Bool.Decides.{nat_tests}
 use Rattle.std.proofs.lemmas.Bool.{and_parts, and_from, leb-true, le-leb, cond-true, cond-false, cases_lt, cases_eq}
 use Rattle.records.specs.Keys.{Ascending}
 use Rattle.raw.specs.Answers.{begins}
@@ -82,30 +83,16 @@ module _ (bs : List ℕ) (column : ℕ) where
   least_by ms (suc i) after = omega (arith, after i (omega arith))
 
   in_words : (ms : List Mark) (i : ℕ) → lawful bs column (least_at 0 ms i) (nth ms i) ≡ true → Lawful bs column ms i
-  in_words ms i e =
-      let m = nth ms i in
-      let least = least_at 0 ms i in
-      let two = and_parts (begins bs m.place && leb least m.place) (has_part column m && keeps bs m.place (token_of m) (fault_count m)) e in
-      let place = and_parts (begins bs m.place) (leb least m.place) two.0 in
-      let rest = and_parts (has_part column m) (keeps bs m.place (token_of m) (fault_count m)) two.1 in
-      let part = and_parts (leb m.faults_from m.faults_to) (leb m.faults_to column) rest.0 in
-      record {
-        there = place.0;
-        after = after_by ms i (leb-true least m.place place.1);
-        part = leb-true m.faults_from m.faults_to part.0;
-        within = leb-true m.faults_to column part.1;
-        kept = rest.1;
-      }
+  in_words ms i e = record {
+    there = grind (arith, nat_tests);
+    after = after_by ms i (grind (arith, nat_tests));
+    part = grind (arith, nat_tests);
+    within = grind (arith, nat_tests);
+    kept = grind (arith, nat_tests);
+  }
 
   from_words : (ms : List Mark) (i : ℕ) → Lawful bs column ms i → lawful bs column (least_at 0 ms i) (nth ms i) ≡ true
-  from_words ms i h =
-      let m = nth ms i in
-      let least = least_at 0 ms i in
-      and_from (begins bs m.place && leb least m.place) (has_part column m && keeps bs m.place (token_of m) (fault_count m))
-      (and_from (begins bs m.place) (leb least m.place) h.there (le-leb least m.place (least_by ms i h.after)))
-      (and_from (has_part column m) (keeps bs m.place (token_of m) (fault_count m))
-      (and_from (leb m.faults_from m.faults_to) (leb m.faults_to column) (le-leb m.faults_from m.faults_to h.part) (le-leb m.faults_to column h.within))
-      h.kept)
+  from_words ms i h = let least = least_by ms i h.after in grind (arith, nat_tests)
 
   pub keep : (ms : List Mark) → Keep bs column ms (lawful_count bs column ms)
   keep ms i l = in_words ms i (counted 0 ms i l)
@@ -114,8 +101,7 @@ module _ (bs : List ℕ) (column : ℕ) where
   breaks ms l h =
       let yes = from_words ms (lawful_count bs column ms) h in
       let no = stopped 0 ms l in
-      let z : ◌≡◌ {A = ℕ} 0 1 = cc in
-      omega arith
+      cc
 
   -- and no more marks at the front keep them
   pub keep_most : (ms : List Mark) (n : ℕ) → n ≤ length ms → Keep bs column ms n → n ≤ lawful_count bs column ms

@@ -77,9 +77,7 @@ module _ (bs : List ℕ) (ms : List Mark) (fs : List EscapeError) (n : ℕ) wher
   count_all all = eq-eqb (lawful_count bs (length fs) ms) (length ms) (omega (arith, count_within bs (length fs) ms, keep_most bs (length fs) ms (length ms) (omega arith) all))
 
   pub judged_over_only : (o : Option Refusal) → JudgedOver bs ms fs n o → o ≡ refusal_over bs ms fs n
-  judged_over_only None j =
-      sym (cond-true (eqb (lawful_count bs (length fs) ms) (length ms)) (cond (shebang_keeps bs n) None (Some (refused.Shebang (length ms)))) (Some (refused.Mark (lawful_count bs (length fs) ms))) (count_all j.0)
-      ∙ cond-true (shebang_keeps bs n) None (Some (refused.Shebang (length ms))) j.2)
+  judged_over_only None j = rw (count_all j.0, j.2)
   judged_over_only (Some refused.TooLong) j = absurd j
   judged_over_only (Some (refused.NotUtf8 at)) j = absurd j
   judged_over_only (Some (refused.Mark k)) j =
@@ -91,12 +89,8 @@ module _ (bs : List ℕ) (ms : List Mark) (fs : List EscapeError) (n : ℕ) wher
       (cases_lt k (lawful_count bs (length fs) ms)) in
       let same : k ≡ lawful_count bs (length fs) ms = omega arith in
       let fewer : eqb (lawful_count bs (length fs) ms) (length ms) ≡ false = ne_eqb (lawful_count bs (length fs) ms) (length ms) (λ e. omega (arith, j.0)) in
-      ap (λ (i : ℕ). Some (refused.Mark i)) same
-      ∙ sym (cond-false (eqb (lawful_count bs (length fs) ms) (length ms)) (cond (shebang_keeps bs n) None (Some (refused.Shebang (length ms)))) (Some (refused.Mark (lawful_count bs (length fs) ms))) fewer)
-  judged_over_only (Some (refused.Shebang k)) j =
-      ap (λ (i : ℕ). Some (refused.Shebang i)) j.1
-      ∙ sym (cond-true (eqb (lawful_count bs (length fs) ms) (length ms)) (cond (shebang_keeps bs n) None (Some (refused.Shebang (length ms)))) (Some (refused.Mark (lawful_count bs (length fs) ms))) (count_all j.0)
-      ∙ cond-false (shebang_keeps bs n) None (Some (refused.Shebang (length ms))) j.2)
+      rw (same, fewer)
+  judged_over_only (Some (refused.Shebang k)) j = rw (j.1, count_all j.0, j.2)
 
   pub judged_only : (o : Option Refusal) → Judged bs ms fs n o → o ≡ refusal bs ms fs n
   judged_only None j = over_script None (scripts.judged_only bs None j.0) (judged_over_only None j.1)

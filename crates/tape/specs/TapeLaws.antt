@@ -28,7 +28,7 @@ found_step bs column least p x xs m true e ih all s = found_here bs column least
 found_step bs column least p x xs m false e ih all s = absurd (omega arith)
 
 pub found : (bs : List ℕ) (column least p : ℕ) (ms : List Mark) (m : Mark) → lawful_from bs column least ms ≡ length ms → mark_at p ms ≡ Some m → FoundAt bs column p m
-found bs column least p [] m all s = let z : ◌≡◌ {A = ℕ} 0 1 = cc in absurd (omega arith)
+found bs column least p [] m all s = cc
 found bs column least p (x ∷ xs) m all s = found_step bs column least p x xs m (lawful bs column least x) refl (found bs column (x.place + 1) p xs m) all s
 
 -- what a lawful mark says of its place, with the faults that its part of the column has

@@ -53,7 +53,7 @@ impl Tape<'_> {
         ensures part { IfSome result (λ mark. (mark.faults_from ≤ mark.faults_to) × (mark.faults_to ≤ length self.now.faults.now)) }
     {
         let number = first_at(self.marks, place as u32)?;
-        Some(self.marks[number])
+        self.marks.get(number).copied()
     }
 
     // The faults of the token at the place: the mark's part of the fault column.
