@@ -2,7 +2,7 @@
 use Rattle.std.proofs.Common.{◌≡◌, ℕ, zero, suc, ◌+◌, ◌<◌, ◌≤◌, Bool, true, false, cond, ltb, List, map, length, get_or, sym, refl, ap, ◌∙◌, subst, ⊎_elim, arith}
 use lib.ListN.{length-map}
 use Rattle.std.proofs.lemmas.List.{get_or-map}
-use Rattle.std.proofs.lemmas.Bool.{ltb-true, ltb-false, lt-ltb, le-ltb, cond-true, cond-false, cond_both, cases_lt, cases_Bool, both_ways}
+use Rattle.std.proofs.lemmas.Bool.{ltb-true, ltb-false, lt-ltb, le-ltb, cond_both, cases_lt, cases_Bool, both_ways}
 use Rattle.records.specs.Cuts.{middle, halves, bisect, Partitioned, Cuts}
 
 middle_low : (low high : ℕ) → low < high → low ≤ middle low high
@@ -11,19 +11,15 @@ middle_low low high l = omega arith
 middle_high : (low high : ℕ) → low < high → middle low high < high
 middle_high low high l = omega arith
 
-cond_alike : {A : Type 0} (b : Bool) (x y v w : A) → (b ≡ true → x ≡ v) → (b ≡ false → y ≡ w) → cond b x y ≡ cond b v w
-cond_alike true x y v w f g = f refl
-cond_alike false x y v w f g = g refl
+cond_alike : {A : Type 0} (b : Bool) (x v y : A) → (b ≡ true → x ≡ v) → cond b x y ≡ cond b v y
+cond_alike true x v y f = f refl
+cond_alike false x v y f = refl
 
 module _ (answers : List Bool) where
   -- where nothing is left the search stays
   halves_none : (n low high : ℕ) → high ≤ low → halves n answers low high ≡ low
   halves_none zero low high l = refl
-  halves_none (suc n) low high l =
-      cond-false (ltb low high)
-      (cond (get_or answers (middle low high) false) (halves n answers (middle low high + 1) high) (halves n answers low (middle low high)))
-      low
-      (le-ltb low high l)
+  halves_none (suc n) low high l = rw (le-ltb low high l)
 
   -- turns to spare change nothing
   turns : (m n low high : ℕ) → high ≤ low + m → high ≤ low + n → halves m answers low high ≡ halves n answers low high
@@ -33,34 +29,26 @@ module _ (answers : List Bool) where
       let mid = middle low high in
       cond_alike (ltb low high)
       (cond (get_or answers mid false) (halves m answers (mid + 1) high) (halves m answers low mid))
-      low
       (cond (get_or answers mid false) (halves n answers (mid + 1) high) (halves n answers low mid))
       low
       (λ some.
       let inside = ltb-true low high some in
       let above = middle_low low high inside in
       let below = middle_high low high inside in
-      cond_alike (get_or answers mid false) (halves m answers (mid + 1) high) (halves m answers low mid) (halves n answers (mid + 1) high) (halves n answers low mid)
-      (λ _. turns m n (mid + 1) high (omega arith) (omega arith))
-      (λ _. turns m n low mid (omega arith) (omega arith)))
-      (λ _. refl)
+      rw (turns m n (mid + 1) high (omega arith) (omega arith), turns m n low mid (omega arith) (omega arith)))
 
   turn : (low high : ℕ) → low < high → halves high answers low high ≡ cond (get_or answers (middle low high) false) (halves high answers (middle low high + 1) high) (halves high answers low (middle low high))
-  turn low high l =
-      turns high (suc high) low high (omega arith) (omega arith)
-      ∙ cond-true (ltb low high) (cond (get_or answers (middle low high) false) (halves high answers (middle low high + 1) high) (halves high answers low (middle low high))) low (lt-ltb low high l)
+  turn low high l = turns high (suc high) low high (omega arith) (omega arith) ∙ rw (lt-ltb low high l)
 
   -- a turn of the loop: on to the upper half, to the lower half, and the end
   pub up : (low high end : ℕ) → low < high → get_or answers (middle low high) false ≡ true → halves high answers low high ≡ end → halves high answers (middle low high + 1) high ≡ end
-  up low high end l e h =
-      sym (cond-true (get_or answers (middle low high) false) (halves high answers (middle low high + 1) high) (halves high answers low (middle low high)) e) ∙ sym (turn low high l) ∙ h
+  up low high end l e h = let next = rw e at (turn low high l) in sym next ∙ h
 
   pub down : (low high end : ℕ) → low < high → get_or answers (middle low high) false ≡ false → halves high answers low high ≡ end → halves (middle low high) answers low (middle low high) ≡ end
   down low high end l e h =
       let below = middle_high low high l in
-      turns (middle low high) high low (middle low high) (omega arith) (omega arith)
-      ∙ sym (cond-false (get_or answers (middle low high) false) (halves high answers (middle low high + 1) high) (halves high answers low (middle low high)) e)
-      ∙ sym (turn low high l) ∙ h
+      let next = rw e at (turn low high l) in
+      turns (middle low high) high low (middle low high) (omega arith) (omega arith) ∙ sym next ∙ h
 
   pub done : (low high end : ℕ) → high ≤ low → halves high answers low high ≡ end → low ≡ end
   done low high end l h = sym (halves_none high low high l) ∙ h

@@ -5,7 +5,8 @@ ghost use Rattle.std.specs.Prelude.{◌≡◌, ℕ, Bool, map, nat_lt};
 ghost use Rattle.records.specs.Cuts.{bisect, Partitioned, Cuts};
 ghost use Rattle.records.specs.Keys.{Ascending, first, searched};
 
-// What is sought among records: a record lies before it or not.
+// What is sought among records: a record lies before it or not. A trait and not a closure, since the clauses of the
+// search name the answer at each record (`before`), and a closure's `post` only relates answers.
 pub trait Probe<R> {
     ghost before: { Self → R → Bool };
 

@@ -1,14 +1,12 @@
 -- How many marks keep the rules: what the loop counts, and what the count says of each mark. Assumes nothing.
-use Rattle.std.proofs.Common.{◌≡◌, ℕ, zero, suc, ◌+◌, ◌<◌, ◌≤◌, Bool, true, false, cond, ◌&&◌, leb, List, [], ◌∷◌, map, length, get_or, drop, sym, refl, ap, ◌∙◌, subst, ⊎_elim, arith}
+use Rattle.std.proofs.Common.{◌≡◌, ℕ, zero, suc, ◌+◌, ◌<◌, ◌≤◌, Bool, true, false, cond, List, [], ◌∷◌, map, length, get_or, drop, sym, refl, ap, ◌∙◌, subst, ⊎_elim, arith}
 use lib.ListN.{length-map}
 use Rattle.std.proofs.lemmas.List.{drop_more, drop_all, get_or-map}
 use Rattle.std.proofs.lemmas.Bool.Decides.{nat_tests}
-use Rattle.std.proofs.lemmas.Bool.{and_parts, and_from, leb-true, le-leb, cond-true, cond-false, cases_lt, cases_eq}
+use Rattle.std.proofs.lemmas.Bool.{cond-true, cond-false, cases_lt, cases_eq}
 use Rattle.records.specs.Keys.{Ascending}
-use Rattle.raw.specs.Answers.{begins}
-use Rattle.raw.specs.Laws.{keeps}
 use Rattle.tape.specs.declared.mark.Mark.{Mark}
-use Rattle.tape.specs.Rules.{token_of, fault_count, has_part, lawful, lawful_from, lawful_count}
+use Rattle.tape.specs.Rules.{lawful, lawful_from, lawful_count}
 use Rattle.tape.specs.Recordings.{nth, Lawful, Keep, Ascend}
 
 module _ (bs : List ℕ) (column : ℕ) where

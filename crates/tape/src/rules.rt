@@ -12,7 +12,7 @@ use script::Script;
 pub(crate) fn shebang_keeps(script: &Script<'_>, len: usize) -> bool
     ensures { result ≡ shebang_keeps script.now.bytes.now len }
 {
-    len == 0 || (2 <= len && len <= script.bytes().len() && script.is_boundary(len))
+    len == 0 || (2 <= len && script.is_boundary(len))
 }
 
 // Whether the text is spelled as the kind says.
