@@ -56,7 +56,7 @@ impl Keyword {
         ensures { result ≡ fits (entry_of self.now) ident.now (edition_number edition) }
     {
         let Keyword(text, _, editions) = *self;
-        editions.contains(edition) && text == ident
+        text == ident && editions.contains(edition)
     }
 }
 
