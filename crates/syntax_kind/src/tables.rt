@@ -1,4 +1,5 @@
-// The keywords as tables.
+// The keywords as tables. No `match` on the text: it is proved byte by byte, and with all the words that takes minutes
+// and leaves goals by the dozen.
 ghost use Rattle.std.specs.Prelude.{◌≡◌, ◌&&◌, nat_le};
 ghost use Rattle.syntax_kind.specs.Editions.{edition_number};
 
