@@ -1,5 +1,5 @@
--- Tokens by their places. Assumes nothing.
-use Rattle.std.proofs.Common.{◌≡◌, ℕ, ◌+◌, ◌<◌, ◌≤◌, true, false, cond, ◌&&◌, eqb, ltb, ◌≢◌, List, length, get_or, drop, Some, None, sym, ap, ◌∙◌, ⊎_elim, arith, length-drop}
+-- Bytes and tokens by their places. Assumes nothing.
+use Rattle.std.proofs.Common.{◌≡◌, ℕ, ◌+◌, ◌<◌, ◌≤◌, true, false, cond, ◌&&◌, eqb, ltb, ◌≢◌, List, length, get_or, drop, Some, None, sym, ap, ◌∙◌, ⊎_elim, arith}
 use Rattle.std.proofs.lemmas.List.{get_or-drop, get_or_past}
 use Rattle.std.proofs.lemmas.Bool.{true≢false, and_from, lt-ltb, ne_eqb, cases_lt, cond-true}
 use Rattle.script.specs.Places.{boundary}
@@ -12,20 +12,20 @@ use Rattle.scanner.specs.Comments.{line_token, block_token, comment}
 use Rattle.scanner.specs.Classes.{digit, run_to}
 use Rattle.scanner.specs.Tokens.{span_of, point, number_to}
 
--- a byte that is not the default stands within the script
-byte_there : (bs : List ℕ) (p x : ℕ) → x ≢ 0 → get_or (drop p bs) 0 0 ≡ x → (p < length bs) × (get_or bs p 0 ≡ x)
-byte_there bs p x n e =
-    ⊎_elim
-    (λ (l : p < length bs).
-    let here : p + 0 ≡ p = omega arith in
-    (l, ap (λ k. get_or bs k 0) (sym here) ∙ (sym (get_or-drop p bs 0 0) ∙ e)))
-    (λ (l : length bs ≤ p). absurd (n (sym e ∙ get_or_past (drop p bs) 0 0 (omega (arith, length-drop p bs)))))
-    (cases_lt p (length bs))
+-- the first byte of what is left
+pub byte_left : (bs : List ℕ) (p : ℕ) → get_or (drop p bs) 0 0 ≡ get_or bs p 0
+byte_left bs p = let here : p + 0 ≡ p = omega arith in get_or-drop p bs 0 0 ∙ ap (λ k. get_or bs k 0) here
+
+-- a token begins at an ASCII character
+pub ascii_begins : (bs : List ℕ) (p : ℕ) → p < length bs → get_or bs p 0 < 128 → token_begins bs p ≡ true
+ascii_begins bs p l low = and_from (ltb p (length bs)) (boundary bs p) (lt-ltb p (length bs) l) (ascii_before bs p l low)
 
 no_slash : (bs : List ℕ) (p : ℕ) → token_begins bs p ≡ false → get_or (drop p bs) 0 0 ≢ slash
 no_slash bs p e = λ s.
-    let there = byte_there bs p slash (omega arith) s in
-    true≢false (sym (and_from (ltb p (length bs)) (boundary bs p) (lt-ltb p (length bs) there.0) (ascii_before bs p there.0 (omega (arith, there.1)))) ∙ e)
+    ⊎_elim
+    (λ (l : p < length bs). true≢false (sym (ascii_begins bs p l (omega (arith, byte_left bs p))) ∙ e))
+    (λ (l : length bs ≤ p). omega (arith, byte_left bs p, get_or_past bs p 0 l))
+    (cases_lt p (length bs))
 
 -- where no token begins there is no comment
 pub no_comment : (bs : List ℕ) (p : ℕ) → token_begins bs p ≡ false → None ≡ comment (drop p bs)

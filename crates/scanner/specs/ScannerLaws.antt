@@ -30,7 +30,7 @@ use Rattle.scanner.specs.Tokens.{span_of, point, number_to, character_at, word_a
 low_within : (a b x : ℕ) → b < 128 → is_in_range a b x ≡ true → x < 128
 low_within a b x h e = omega (arith, leb-true x b (and_parts (nat_le a x) (nat_le x b) e).1)
 
-low_letter : (x : ℕ) → letter x ≡ true → x < 128
+pub low_letter : (x : ℕ) → letter x ≡ true → x < 128
 low_letter x e =
     ⊎_elim
     (λ h. ⊎_elim (low_within 97 122 x (omega arith)) (low_within 65 90 x (omega arith)) (or_cases (is_in_range 97 122 x) (is_in_range 65 90 x) h))

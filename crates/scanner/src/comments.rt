@@ -5,7 +5,7 @@ ghost use Rattle.scanner.specs.Comments.{closing, line_style, block_style, line_
 ghost use Rattle.scanner.specs.Reading.{Stands, Reading, token_of};
 
 use crate::classes::run_len;
-use crate::start::Start;
+use crate::rest::Rest;
 use raw::{DocStyle, RawKind, RawToken};
 use script::Script;
 
@@ -57,37 +57,35 @@ fn closing(text: &[u8]) -> Option<usize>
     }
 }
 
-impl Start<'_> {
+impl Rest<'_> {
     fn line_comment(&self) -> RawToken
-        ensures { result ≡ line_token (drop self.now.place self.now.script.bytes.now) }
+        ensures { result ≡ line_token self.now.bytes.now }
     {
-        let text = self.rest();
-        let doc_style = line_style(text);
-        let len = run_len(text, |b| b != b'\n');
+        let doc_style = line_style(self.bytes);
+        let len = run_len(self.bytes, |b| b != b'\n');
         self.span(RawKind::LineComment { doc_style }, len)
     }
 
     // An open comment runs to the end of the script.
     fn block_comment(&self, inside: &[u8]) -> RawToken
-        requires opened { begins slash star (drop self.now.place self.now.script.bytes.now) ≡ true }
-        requires inside { inside.now ≡ drop 2 (drop self.now.place self.now.script.bytes.now) }
-        ensures { result ≡ block_token (drop self.now.place self.now.script.bytes.now) }
+        requires opened { begins slash star self.now.bytes.now ≡ true }
+        requires inside { inside.now ≡ drop 2 self.now.bytes.now }
+        ensures { result ≡ block_token self.now.bytes.now }
     {
-        let text = self.rest();
-        let doc_style = block_style(text);
+        let doc_style = block_style(self.bytes);
         let end = closing(inside);
         let terminated = end.is_some();
         let kind = RawKind::BlockComment {
             doc_style,
             terminated,
         };
-        self.span(kind, end.map_or(text.len(), |len| len + 2))
+        self.span(kind, end.map_or(self.bytes.len(), |len| len + 2))
     }
 
     pub(crate) fn comment(&self) -> Option<RawToken>
-        ensures { result ≡ comment (drop self.now.place self.now.script.bytes.now) }
+        ensures { result ≡ comment self.now.bytes.now }
     {
-        match self.rest() {
+        match self.bytes {
             [b'/', b'/', ..] => Some(self.line_comment()),
             [b'/', b'*', inside @ ..] => Some(self.block_comment(inside)),
             _ => None,
@@ -101,5 +99,5 @@ pub fn comment_at(script: &Script<'_>, place: usize) -> Option<RawToken>
     ensures grammar { Reading (drop place script.now.bytes.now) result }
     ensures only { (f : Form) (n : ℕ) → Stands f n (drop place script.now.bytes.now) → result ≡ Some (token_of f n) }
 {
-    Start::at(script, place).ok()?.comment()
+    Rest::at(script, place)?.comment()
 }

@@ -10,8 +10,8 @@ use script::{Refusal, Script};
 mod classes;
 mod comments;
 mod marks;
+mod rest;
 mod source;
-mod start;
 mod tokens;
 
 pub use comments::comment_at;

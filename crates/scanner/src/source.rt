@@ -4,8 +4,8 @@ ghost use Rattle.scanner.specs.Tokens.{token_at};
 ghost use Rattle.scanner.specs.ScannerLaws.{scanner_laws};
 
 use crate::Scanner;
-use crate::start::Start;
-use raw::{EscapeError, RawSource, RawToken, Refusal};
+use crate::rest::Rest;
+use raw::{EscapeError, RawSource, RawToken, Refusal, begins};
 use script::Script;
 
 impl<'a> RawSource for Scanner<'a> {
@@ -24,12 +24,16 @@ impl<'a> RawSource for Scanner<'a> {
     }
 
     fn token_at(&self, place: usize) -> Result<RawToken, Refusal> {
-        Ok(Start::at(&self.script, place)?.token())
+        Rest::at(&self.script, place)
+            .ok_or(Refusal::NoToken)?
+            .token()
     }
 
     // No token has a fault.
     fn fault_at(&self, place: usize, _number: usize) -> Result<EscapeError, Refusal> {
-        Start::at(&self.script, place)?;
+        if !begins(&self.script, place) {
+            return Err(Refusal::NoToken);
+        }
         Err(Refusal::NoFault)
     }
 
