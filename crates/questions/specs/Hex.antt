@@ -11,6 +11,13 @@ pair None low = None
 pair (Some h) None = None
 pair (Some h) (Some l) = Some (h * 16 + l)
 
+-- the byte of the text of one
+abbrev pub pair_byte : List ℕ → Option ℕ
+pair_byte [] = None
+pair_byte (h ∷ []) = None
+pair_byte (h ∷ l ∷ []) = pair (digit h) (digit l)
+pair_byte (h ∷ l ∷ x ∷ rest) = None
+
 -- a byte before others
 abbrev pub before : Option ℕ → Option (List ℕ) → Option (List ℕ)
 before None bs = None

@@ -1,0 +1,6 @@
+//! Optional values in printed text.
+#![tactic(auto)]
+
+mod optional;
+
+pub use optional::{After, Or};
