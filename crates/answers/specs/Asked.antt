@@ -7,9 +7,9 @@ use Rattle.frontmatter.specs.Parsing.{parsing}
 use Rattle.answers.specs.declared.answer.Answer.{Answer}
 use Rattle.answers.specs.declared.answer.Answer.TheVariants.{Frontmatter, Keywords as KeywordsA, Trivia, Malformed}
 use Rattle.answers.specs.declared.answer.Keywords.{Keywords}
-use Rattle.answers.specs.Hex.{hex_bytes}
+use Rattle.questions.specs.Hex.{hex_bytes}
 use Rattle.answers.specs.Numbers.{number}
-use Rattle.answers.specs.Places.{place_of}
+use Rattle.questions.specs.Places.{place_of}
 
 -- an edition past 255 is as unknown as 255
 abbrev pub edition : ℕ → ℕ

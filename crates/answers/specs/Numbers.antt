@@ -1,11 +1,7 @@
--- Decimal numbers.
-use Rattle.std.specs.Prelude.{ℕ, ◌+◌, ◌-◌, ◌*◌, min, cond, ◌&&◌, List, [], ◌∷◌, length, Some, None, Option, ◌==◌, nat_le}
+-- Decimal numbers, as far as a question takes them.
+use Rattle.std.specs.Prelude.{ℕ, min, cond, List, length, None, Option, ◌==◌}
 use Rattle.std.specs.Option.{option_map}
-
--- the value of the digits ('0' to '9' are 48 to 57) after those that n is the value of
-abbrev pub value : ℕ → List ℕ → Option ℕ
-value n [] = Some n
-value n (b ∷ bs) = cond (nat_le 48 b && nat_le b 57) (value (n * 10 + (b - 48)) bs) None
+use Rattle.questions.specs.Decimal.{value}
 
 abbrev pub capped : ℕ → ℕ
 capped n = min n 65535

@@ -1,7 +1,7 @@
 -- The answers to all lines.
 use Rattle.std.specs.Prelude.{ℕ, zero, suc, ◌+◌, List, [], ◌∷◌, ◌++◌, length, take, drop}
 use Rattle.answers.specs.Asked.{answer_to}
-use Rattle.answers.specs.Places.{place_of}
+use Rattle.questions.specs.Places.{place_of}
 use Rattle.answers.specs.Texts.{answer_text}
 
 -- the line of the answer, which a line feed (10) ends

@@ -1,12 +1,11 @@
 // Questions and their answers.
-ghost use Rattle.std.specs.Prelude.{◌≡◌, ◌≤◌, true, length, IfOk, vec_items};
+ghost use Rattle.std.specs.Prelude.{◌≡◌, IfOk, vec_items};
 ghost use Rattle.std.specs.Option.{option_map};
-ghost use Rattle.answers.specs.Asked.{edition, keywords, identifier_answer, frontmatter_line, keyword_line, trivia_line, is_question, asked, answer_to};
+ghost use Rattle.answers.specs.Asked.{edition, keywords, identifier_answer, frontmatter_line, keyword_line, trivia_line, answer_to};
+ghost use Rattle.answers.specs.Numbers.{number};
 
-use crate::hex::decode;
-use crate::number::read_number;
-use crate::place::place_of;
 use frontmatter::{Failure, ScriptSource};
+use questions::{decimal, decode, split_once};
 use std::alloc::{AllocError, Global};
 use syntax_kind::{Refusal, from_contextual_keyword, from_keyword, is_trivia};
 
@@ -32,6 +31,13 @@ fn find_keywords(ident: &[u8], edition: u8) -> Result<Keywords, Refusal>
     let strict = from_keyword(ident, edition)?;
     let contextual = from_contextual_keyword(ident, edition)?;
     Ok(Keywords { strict, contextual })
+}
+
+// A number past 65535 counts as 65535, which no question takes.
+fn number(text: &[u8]) -> Option<u16>
+    ensures { result ≡ number text.now }
+{
+    decimal(text).map(|n| n.min(65535) as u16)
 }
 
 // An edition past 255 is as unknown as 255.
@@ -63,39 +69,19 @@ fn answer_identifier(number: Option<u16>, ident: Option<Vec<u8>>) -> Answer
 fn answer_keywords(heap: Global, text: &[u8]) -> Result<Answer, AllocError>
     ensures { IfOk result (λ a. a ≡ keyword_line text.now) }
 {
-    let space = place_of(text, b' ');
-    if space == text.len() {
+    let Some((edition, ident)) = split_once(text, b' ') else {
         return Ok(Answer::Malformed);
-    }
-    let number = read_number(&text[0..space]);
-    let ident = decode(heap, &text[space + 1..])?;
-    Ok(answer_identifier(number, ident))
+    };
+    let ident = decode(heap, ident)?;
+    Ok(answer_identifier(number(edition), ident))
 }
 
 fn answer_trivia(text: &[u8]) -> Answer
     ensures { result ≡ trivia_line text.now }
 {
-    match read_number(text) {
+    match number(text) {
         Some(kind) => Answer::Trivia(is_trivia(kind)),
         None => Answer::Malformed,
-    }
-}
-
-fn is_question(line: &[u8]) -> bool
-    ensures value { result ≡ is_question line.now }
-    ensures long { result ≡ true → 2 ≤ length line.now }
-{
-    line.len() >= 2 && line[1] == b' '
-}
-
-fn answer_asked(heap: Global, letter: u8, rest: &[u8]) -> Result<Answer, AllocError>
-    ensures { IfOk result (λ a. a ≡ asked letter rest.now) }
-{
-    match letter {
-        b'F' => answer_frontmatter(heap, rest),
-        b'K' => answer_keywords(heap, rest),
-        b'T' => Ok(answer_trivia(rest)),
-        _ => Ok(Answer::Malformed),
     }
 }
 
@@ -104,9 +90,11 @@ impl Answer {
     pub fn to(heap: Global, line: &[u8]) -> Result<Answer, AllocError>
         ensures { IfOk result (λ a. a ≡ answer_to line.now) }
     {
-        if !is_question(line) {
-            return Ok(Answer::Malformed);
+        match line {
+            [b'F', b' ', hex @ ..] => answer_frontmatter(heap, hex),
+            [b'K', b' ', text @ ..] => answer_keywords(heap, text),
+            [b'T', b' ', text @ ..] => Ok(answer_trivia(text)),
+            _ => Ok(Answer::Malformed),
         }
-        answer_asked(heap, line[0], &line[2..])
     }
 }

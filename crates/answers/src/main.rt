@@ -8,9 +8,6 @@
 #![tactic(auto)]
 
 mod answer;
-mod hex;
-mod number;
-mod place;
 mod replay;
 mod text;
 
