@@ -1,11 +1,12 @@
 // The answers.
-use crate::columns::Columns;
 use crate::failure::Failure;
 use crate::question::{Asked, Question};
-use crate::text::{write_columns, write_input, write_single};
+use crate::text::{ColumnsText, InputText, SingleText};
 use converter::single_token;
 use input::{Input, to_input};
 use lexed_str::LexedStr;
+use owned_columns::OwnedColumns;
+use raw::RawSource;
 use std::alloc::Global;
 use tape::Tape;
 
@@ -18,14 +19,16 @@ pub fn answer(heap: Global, question: &Question, output: &mut String) -> Result<
         question.recorded.shebang,
     );
     recording.checked()?;
+    let tape = recording.tape;
     match question.asked {
-        Asked::Single => answer_single(&recording.tape, question.edition, output),
-        _ => answer_tokens(heap, question, &recording.tape, output),
+        Asked::Single => answer_single(&tape, question.edition, output),
+        _ => answer_tokens(heap, question, &tape, output),
     }
 }
 
 fn answer_single(tape: &Tape, edition: u8, output: &mut String) -> Result<(), Failure> {
-    write_single(single_token(tape, edition)?, output)?;
+    let text = SingleText(single_token(tape, edition)?);
+    write!(output, "{text}")?;
     Ok(())
 }
 
@@ -35,22 +38,18 @@ fn answer_tokens(
     tape: &Tape,
     output: &mut String,
 ) -> Result<(), Failure> {
-    let mut columns = Columns::with_room(heap, question.script.len())?;
-    columns.lex(tape, question.edition)?;
-    answer_read(heap, question, &columns, output)
-}
-
-fn answer_read<'a>(
-    heap: Global,
-    question: &'a Question,
-    columns: &'a Columns,
-    output: &mut String,
-) -> Result<(), Failure> {
-    let offered = columns.read(question.script.as_slice());
-    offered.checked()?;
+    if question.edition > 3 {
+        return Err(syntax_kind::Refusal::Edition.into());
+    }
+    let columns = OwnedColumns::lex(heap, tape, question.edition)?;
+    let lexed = columns.read(tape.script());
     match question.asked {
-        Asked::Input => answer_input(heap, &offered.lexed, question.edition, output),
-        _ => Ok(write_columns(&offered.lexed, output)?),
+        Asked::Input => answer_input(heap, &lexed, question.edition, output),
+        _ => {
+            let text = ColumnsText(lexed);
+            write!(output, "{text}")?;
+            Ok(())
+        }
     }
 }
 
@@ -72,6 +71,7 @@ fn answer_input(
         editions.as_mut_slice(),
     );
     to_input(lexed, edition, &mut input)?;
-    write_input(&input, output)?;
+    let text = InputText(&input);
+    write!(output, "{text}")?;
     Ok(())
 }

@@ -1,12 +1,13 @@
 // Why a line has no answer of its kind.
+use questions::Refused;
 use std::alloc::{AllocError, AllocFailed};
 
-#[derive(Clone, Copy)]
+#[derive(Clone, Copy, Debug, PartialEq, Eq)]
 pub enum Failure {
     // The line asks nothing.
     Malformed,
     // The libraries refuse the question.
-    Refused { number: u8, value: Option<usize> },
+    Refused(Refused),
     OutOfMemory,
 }
 
@@ -22,38 +23,39 @@ impl<T: Drop> From<AllocFailed<T>> for Failure {
     }
 }
 
+// Each library has refusals of its own type, so each has its own conversion.
 impl From<tape::Refusal> for Failure {
     fn from(why: tape::Refusal) -> Failure {
-        Failure::Refused {
+        Failure::Refused(Refused {
             number: why.number(),
             value: why.value(),
-        }
+        })
+    }
+}
+
+impl From<syntax_kind::Refusal> for Failure {
+    fn from(why: syntax_kind::Refusal) -> Failure {
+        Failure::Refused(Refused {
+            number: why.number(),
+            value: None,
+        })
     }
 }
 
 impl From<converter::Refusal> for Failure {
     fn from(why: converter::Refusal) -> Failure {
-        Failure::Refused {
+        Failure::Refused(Refused {
             number: why.number(),
             value: None,
-        }
-    }
-}
-
-impl From<lexed_str::Refusal> for Failure {
-    fn from(why: lexed_str::Refusal) -> Failure {
-        Failure::Refused {
-            number: why.number(),
-            value: why.value(),
-        }
+        })
     }
 }
 
 impl From<input::Refusal> for Failure {
     fn from(why: input::Refusal) -> Failure {
-        Failure::Refused {
+        Failure::Refused(Refused {
             number: why.number(),
             value: None,
-        }
+        })
     }
 }

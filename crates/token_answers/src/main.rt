@@ -10,9 +10,7 @@
 #![tactic(auto)]
 
 mod answer;
-mod columns;
 mod failure;
-mod hex;
 mod numbered;
 mod question;
 mod recorded;
@@ -27,7 +25,6 @@ use std::io::{Read, Write};
 fn main(rt: HostRuntime) -> io::Result<()> {
     let mut input = Vec::new(rt.alloc());
     rt.stdin().read_to_end(&mut input)?;
-    let text = String::from_utf8_lossy(rt.alloc(), input.as_slice())?;
-    let output = replay(rt.alloc(), text.as_str())?;
+    let output = replay(rt.alloc(), input.as_slice())?;
     rt.stdout().write_all(output.as_bytes())
 }

@@ -1,11 +1,11 @@
 // Questions.
 use crate::failure::Failure;
-use crate::hex::decode;
 use crate::recorded::Recorded;
 use crate::words::{cut, cut_number};
+use questions::decode;
 use std::alloc::Global;
 
-#[derive(Clone, Copy)]
+#[derive(Clone, Copy, Debug, PartialEq, Eq)]
 pub enum Asked {
     Columns,
     Input,
@@ -20,39 +20,28 @@ pub struct Question {
     pub recorded: Recorded,
 }
 
-fn asked_by(letter: &str) -> Result<Asked, Failure> {
-    match letter {
-        "L" => Ok(Asked::Columns),
-        "I" => Ok(Asked::Input),
-        "S" => Ok(Asked::Single),
-        _ => Err(Failure::Malformed),
+impl Asked {
+    fn of_letter(letter: &[u8]) -> Result<Asked, Failure> {
+        match letter {
+            b"L" => Ok(Asked::Columns),
+            b"I" => Ok(Asked::Input),
+            b"S" => Ok(Asked::Single),
+            _ => Err(Failure::Malformed),
+        }
     }
 }
 
 impl Question {
-    // A question about nothing yet.
-    pub fn new(heap: Global) -> Question {
-        Question {
-            asked: Asked::Single,
-            edition: 0,
-            script: Vec::new(heap),
-            recorded: Recorded::new(heap),
-        }
-    }
-
     // An edition past 255 is as unknown as 255.
-    pub fn read(&mut self, line: &str) -> Result<(), Failure> {
-        let (letter, line) = cut(line, ' ')?;
-        let (edition, line) = cut_number(line, ' ')?;
-        self.asked = asked_by(letter)?;
-        self.edition = edition.min(255) as u8;
-        self.read_script(line)
-    }
-
-    fn read_script(&mut self, text: &str) -> Result<(), Failure> {
-        let (hex, tape) = cut(text, ' ')?;
-        self.script.clear();
-        decode(hex, &mut self.script)?;
-        self.recorded.read(tape)
+    pub fn read(heap: Global, line: &[u8]) -> Result<Question, Failure> {
+        let (letter, line) = cut(line, b' ')?;
+        let (edition, line) = cut_number(line, b' ')?;
+        let (hex, tape) = cut(line, b' ')?;
+        Ok(Question {
+            asked: Asked::of_letter(letter)?,
+            edition: edition.min(255) as u8,
+            script: decode(heap, hex)?.ok_or(Failure::Malformed)?,
+            recorded: Recorded::read(heap, tape)?,
+        })
     }
 }

@@ -2,6 +2,7 @@
 use crate::failure::Failure;
 use crate::numbered::{escape_error, raw_kind};
 use crate::words::{cut_number, number};
+use questions::split_once;
 use raw::EscapeError;
 use std::alloc::Global;
 use tape::Mark;
@@ -14,36 +15,29 @@ pub struct Recorded {
 }
 
 impl Recorded {
-    pub fn new(heap: Global) -> Recorded {
-        Recorded {
-            shebang: 0,
+    pub fn read(heap: Global, text: &[u8]) -> Result<Recorded, Failure> {
+        let (shebang, marks) = cut_number(text, b';')?;
+        let mut recorded = Recorded {
+            shebang,
             marks: Vec::new(heap),
             faults: Vec::new(heap),
+        };
+        if !matches!(marks, b"-") {
+            recorded.read_marks(marks)?;
         }
+        Ok(recorded)
     }
 
-    // Reads another tape.
-    pub fn read(&mut self, text: &str) -> Result<(), Failure> {
-        let (shebang, marks) = cut_number(text, ';')?;
-        self.shebang = shebang;
-        self.marks.clear();
-        self.faults.clear();
-        if marks == "-" {
-            return Ok(());
-        }
-        self.read_marks(marks)
-    }
-
-    fn read_marks(&mut self, text: &str) -> Result<(), Failure> {
-        for mark in text.split(',') {
+    fn read_marks(&mut self, text: &[u8]) -> Result<(), Failure> {
+        for mark in text.split(|b| *b == b',') {
             self.read_mark(mark)?;
         }
         Ok(())
     }
 
-    fn read_mark(&mut self, text: &str) -> Result<(), Failure> {
-        let (place, text) = cut_number(text, ':')?;
-        let (kind, text) = cut_number(text, ':')?;
+    fn read_mark(&mut self, text: &[u8]) -> Result<(), Failure> {
+        let (place, text) = cut_number(text, b':')?;
+        let (kind, text) = cut_number(text, b':')?;
         let faults_from = self.fault_count();
         let (len, faults_to) = self.read_len_and_faults(text)?;
         self.marks.push(Mark {
@@ -57,17 +51,17 @@ impl Recorded {
     }
 
     // A length, and where the faults that follow it end in the column.
-    fn read_len_and_faults(&mut self, text: &str) -> Result<(u32, u32), Failure> {
-        match text.split_once(':') {
+    fn read_len_and_faults(&mut self, text: &[u8]) -> Result<(u32, u32), Failure> {
+        match split_once(text, b':') {
             Some((len, faults)) => Ok((number(len)?, self.read_faults(faults)?)),
             None => Ok((number(text)?, self.fault_count())),
         }
     }
 
     // Where the faults end. With an unknown one among them they end past the column, so that no tape takes their mark.
-    fn read_faults(&mut self, text: &str) -> Result<u32, Failure> {
+    fn read_faults(&mut self, text: &[u8]) -> Result<u32, Failure> {
         let mut known = true;
-        for fault in text.split('.') {
+        for fault in text.split(|b| *b == b'.') {
             match escape_error(number(fault)?) {
                 Some(fault) => self.faults.push(fault)?,
                 None => known = false,
@@ -77,6 +71,6 @@ impl Recorded {
     }
 
     fn fault_count(&self) -> u32 {
-        self.faults.len().min(u32::MAX as usize) as u32
+        u32::try_from(self.faults.len()).unwrap_or(u32::MAX)
     }
 }

@@ -1,134 +1,99 @@
 // The lines that are printed for answers.
-ghost use Rattle.std.specs.Prelude.{◌<◌, ◌≤◌};
-ghost use Rattle.lexed_str.specs.Columns.{tokens};
+ghost use Rattle.std.specs.Iterator.{IsFinite};
 
 use input::Input;
 use lexed_str::{LexError, LexedStr};
-use std::alloc::AllocError;
+use shown::After;
+use std::fmt;
 use syntax_kind::kinds::EOF;
 
-// The columns that are printed as rows of numbers.
-#[derive(Clone, Copy)]
-enum Column {
-    Kinds,
-    Starts,
-}
+// The kinds and starts, the end's last, and the errors.
+#[derive(Drop)]
+pub struct ColumnsText<'a>(pub LexedStr<'a>);
+
+// The kinds, the contextual kinds, and a mark for each entry that is joint.
+#[derive(Drop)]
+pub struct InputText<'a, 'b>(pub &'a Input<'b>);
 
 #[derive(Clone, Copy)]
-enum InputColumn {
-    Kinds,
-    ContextualKinds,
-}
+pub struct SingleText(pub Option<(u16, Option<u16>)>);
 
-fn put(output: &mut String, n: usize, sign: &str) -> Result<(), AllocError> {
-    write!(output, "{n}{sign}")
-}
+#[derive(Clone, Copy)]
+struct ErrorText(LexError);
 
-// What stands after entry i of `len` entries, joined by commas.
-fn sign_after(i: usize, len: usize, last: &'static str) -> &'static str
-    requires { i < len }
+// The items with commas between them.
+fn write_row<W: fmt::Write, I: Iterator + Drop>(
+    f: &mut fmt::Formatter<W>,
+    mut row: I,
+) -> fmt::Result
+where
+    I::Item: fmt::Display + Drop,
+    requires can { I.can_next row }
+    requires ends { IsFinite (I.remaining row) }
 {
-    if i + 1 < len { "," } else { last }
+    let Some(first) = row.next() else {
+        return Ok(());
+    };
+    write!(f, "{first}")?;
+    for x in row {
+        write!(f, ",{x}")?;
+    }
+    Ok(())
 }
 
-// The end's entry comes last.
-fn entry_of(lexed: &LexedStr, column: Column, i: usize) -> usize
-    requires { i ≤ tokens lexed.now.kinds.now }
-{
-    match column {
-        Column::Kinds => lexed.kind(i).unwrap_or(EOF) as usize,
-        Column::Starts => {
-            let Ok(start) = lexed.text_start(i) else {
-                unreachable()
-            };
-            start
+impl fmt::Display for ErrorText {
+    fn fmt<W: fmt::Write>(&self, f: &mut fmt::Formatter<W>) -> fmt::Result {
+        let LexError { token, code } = self.0;
+        write!(f, "{token}:{code}")
+    }
+}
+
+impl fmt::Display for ColumnsText<'_> {
+    fn fmt<W: fmt::Write>(&self, f: &mut fmt::Formatter<W>) -> fmt::Result {
+        let lexed = &self.0;
+        let entries = 0..=lexed.len();
+        write_row(f, entries.map(|i| lexed.kind(i).unwrap_or(EOF)))?;
+        f.write_str("|")?;
+        let entries = 0..=lexed.len();
+        write_row(f, entries.filter_map(|i| lexed.text_start(i).ok()))?;
+        f.write_str("|")?;
+        if lexed.errors().is_empty() {
+            return f.write_str("-");
         }
+        write_row(f, lexed.errors().iter().map(|error| ErrorText(*error)))
     }
 }
 
-fn write_column(lexed: &LexedStr, column: Column, output: &mut String) -> Result<(), AllocError> {
-    for i in 0..lexed.len() {
-        put(output, entry_of(lexed, column, i), ",")?;
-    }
-    put(output, entry_of(lexed, column, lexed.len()), "|")
-}
-
-fn write_errors(errors: &[LexError], output: &mut String) -> Result<(), AllocError> {
-    for (i, error) in errors.iter().enumerate() {
-        put(output, error.token as usize, ":")?;
-        put(output, error.code as usize, sign_after(i, errors.len(), ""))?;
-    }
-    Ok(())
-}
-
-pub fn write_columns(lexed: &LexedStr, output: &mut String) -> Result<(), AllocError> {
-    write_column(lexed, Column::Kinds, output)?;
-    write_column(lexed, Column::Starts, output)?;
-    if lexed.errors().is_empty() {
-        return output.push_str("-");
-    }
-    write_errors(lexed.errors(), output)
-}
-
-fn input_entry_of(input: &Input, column: InputColumn, i: usize) -> usize {
-    match column {
-        InputColumn::Kinds => input.kind(i) as usize,
-        InputColumn::ContextualKinds => input.contextual_kind(i) as usize,
+impl fmt::Display for InputText<'_, '_> {
+    fn fmt<W: fmt::Write>(&self, f: &mut fmt::Formatter<W>) -> fmt::Result {
+        let input = self.0;
+        let len = input.len();
+        if len == 0 {
+            return f.write_str("-|-|-");
+        }
+        write_row(f, (0..len).map(|i| input.kind(i)))?;
+        f.write_str("|")?;
+        write_row(f, (0..len).map(|i| input.contextual_kind(i)))?;
+        f.write_str("|")?;
+        for i in 0..len {
+            let joint = u8::from(matches!(input.is_joint(i), Ok(true)));
+            write!(f, "{joint}")?;
+        }
+        Ok(())
     }
 }
 
-fn write_input_column(
-    input: &Input,
-    column: InputColumn,
-    output: &mut String,
-) -> Result<(), AllocError> {
-    let len = input.len();
-    for i in 0..len {
-        put(
-            output,
-            input_entry_of(input, column, i),
-            sign_after(i, len, "|"),
-        )?;
-    }
-    Ok(())
-}
-
-// A mark for each entry.
-fn write_joint(input: &Input, output: &mut String) -> Result<(), AllocError> {
-    for i in 0..input.len() {
-        let joint = matches!(input.is_joint(i), Ok(true));
-        put(output, usize::from(joint), "")?;
-    }
-    Ok(())
-}
-
-pub fn write_input(input: &Input, output: &mut String) -> Result<(), AllocError> {
-    if input.len() == 0 {
-        return output.push_str("-|-|-");
-    }
-    write_input_column(input, InputColumn::Kinds, output)?;
-    write_input_column(input, InputColumn::ContextualKinds, output)?;
-    write_joint(input, output)
-}
-
-pub fn write_single(
-    token: Option<(u16, Option<u16>)>,
-    output: &mut String,
-) -> Result<(), AllocError> {
-    match token {
-        None => output.push_str("-"),
-        Some((kind, None)) => put(output, kind as usize, ""),
-        Some((kind, Some(code))) => write!(output, "{kind}:{code}"),
-    }
-}
-
-pub fn write_refusal(
-    number: u8,
-    value: Option<usize>,
-    output: &mut String,
-) -> Result<(), AllocError> {
-    match value {
-        Some(value) => write!(output, "refused {number} {value}"),
-        None => write!(output, "refused {number}"),
+impl fmt::Display for SingleText {
+    fn fmt<W: fmt::Write>(&self, f: &mut fmt::Formatter<W>) -> fmt::Result {
+        match self.0 {
+            None => f.write_str("-"),
+            Some((kind, code)) => {
+                let code = After {
+                    lead: ":",
+                    value: code,
+                };
+                write!(f, "{kind}{code}")
+            }
+        }
     }
 }
