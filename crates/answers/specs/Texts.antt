@@ -3,7 +3,7 @@ use Rattle.std.specs.Prelude.{ℕ, Bool, cond, List, [], ◌++◌, Some, None, O
 use Rattle.std.proofs.Math.Utf8.{encode}
 use Rattle.script.specs.Admission.{number}
 use Rattle.script.specs.declared.refusal.Refusal.{Refusal}
-use Rattle.script.specs.declared.refusal.Refusal.TheVariants.{TooLong, NotUtf8, NoCharacter}
+use Rattle.script.specs.declared.refusal.Refusal.TheVariants.{TooLong, NotUtf8}
 use Rattle.syntax_kind.specs.Refusals.{refusal_number}
 use Rattle.syntax_kind.specs.declared.Refusal.{Refusal as KindRefusal}
 use Rattle.frontmatter.specs.Parsing.{letter}
@@ -57,7 +57,6 @@ refused_text n = codes "refused " ++ decimal n
 abbrev pub refusal_text : Refusal → List ℕ
 refusal_text TooLong = refused_text (number TooLong)
 refusal_text (NotUtf8 at) = codes "refused " ++ (decimal (number (NotUtf8 at)) ++ (codes " " ++ decimal at))
-refusal_text NoCharacter = refused_text (number NoCharacter)
 
 abbrev pub frontmatter_text : Result ScriptSource Failure → List ℕ
 frontmatter_text (Ok source) = parts_text source

@@ -7,16 +7,16 @@ ghost use Rattle.answers.specs.Numbers.{number};
 use frontmatter::{Failure, ScriptSource};
 use questions::{decimal, decode, split_once};
 use std::alloc::{AllocError, Global};
-use syntax_kind::{Refusal, from_contextual_keyword, from_keyword, is_trivia};
+use syntax_kind::{Edition, Refusal, is_trivia};
 
 // The kinds that an identifier has as a strict and as a contextual keyword.
-#[derive(Clone, Copy)]
+#[derive(Clone, Copy, Debug, PartialEq, Eq)]
 pub struct Keywords {
     pub strict: Option<u16>,
     pub contextual: Option<u16>,
 }
 
-#[derive(Clone, Copy)]
+#[derive(Clone, Copy, Debug, PartialEq, Eq)]
 pub enum Answer {
     Frontmatter(Result<ScriptSource, Failure>),
     Keywords(Result<Keywords, Refusal>),
@@ -28,9 +28,11 @@ pub enum Answer {
 fn find_keywords(ident: &[u8], edition: u8) -> Result<Keywords, Refusal>
     ensures { result ≡ keywords ident.now edition }
 {
-    let strict = from_keyword(ident, edition)?;
-    let contextual = from_contextual_keyword(ident, edition)?;
-    Ok(Keywords { strict, contextual })
+    let edition = Edition::try_from(edition)?;
+    Ok(Keywords {
+        strict: edition.keyword(ident),
+        contextual: edition.contextual_keyword(ident),
+    })
 }
 
 // A number past 65535 counts as 65535, which no question takes.

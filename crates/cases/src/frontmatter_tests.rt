@@ -9,10 +9,7 @@ fn span(start: usize, end: usize) -> Span {
 }
 
 fn accepted(script: &[u8]) -> Result<ScriptSource, Fail> {
-    match ScriptSource::parse(script) {
-        Ok(source) => Ok(source),
-        Err(_) => Err(Fail::new("not accepted")),
-    }
+    ScriptSource::parse(script).map_err(|_| Fail::new("not accepted"))
 }
 
 // The fault's letter, where it is, and the fences that go with it.

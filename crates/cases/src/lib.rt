@@ -10,16 +10,7 @@ pub fn evaluated() -> u8
     ensures count { result ≡ 5 }
     ensures examples { Examples }
 {
-    hold(5)
-}
-
-// Gives the number back, with the examples themselves.
-fn hold(count: u8) -> u8
-    requires { count ≡ 5 }
-    ensures count { result ≡ 5 }
-    ensures examples { Examples }
-{
-    count
+    5
 }
 
 // The number of examples on tokens that the definitions give by evaluation.
@@ -27,16 +18,7 @@ pub fn tokens_evaluated() -> u8
     ensures count { result ≡ 2 }
     ensures examples { TokenExamples }
 {
-    hold_tokens(2)
-}
-
-// Gives the number back, with the examples on tokens themselves.
-fn hold_tokens(count: u8) -> u8
-    requires { count ≡ 2 }
-    ensures count { result ≡ 2 }
-    ensures examples { TokenExamples }
-{
-    count
+    2
 }
 
 mod own_source;

@@ -1,5 +1,6 @@
 // Admission, places and white space on examples.
-use script::{Refusal, Script, white_end, white_len};
+use script::{NoCharacter, Refusal, Script, white_end, white_len};
+use std::test::Fail;
 
 #[test]
 fn well_formed(rt: HostRuntime) {
@@ -11,7 +12,7 @@ fn well_formed(rt: HostRuntime) {
         b"\xEE\x80\x80",
         b"\xF4\x8F\xBF\xBF",
     ] {
-        assert_eq!(rt; Script::admit(text).refused, None);
+        assert!(rt; Script::admit(text).is_ok());
     }
 }
 
@@ -28,21 +29,22 @@ fn ill_formed(rt: HostRuntime) {
         b"ab\xE2\x82",
     ] {
         assert_eq!(rt;
-            Script::admit(bytes).refused,
+            Script::admit(bytes).err(),
             Some(Refusal::NotUtf8 { at: 2 })
         );
     }
 }
 
 #[test]
-fn places(rt: HostRuntime) {
-    let script = Script::admit(b"a\xE2\x82\xAC").script;
+fn places(rt: HostRuntime) -> Result<(), Fail> {
+    let script = Script::admit(b"a\xE2\x82\xAC")?;
     assert!(rt; script.is_boundary(0) && script.is_boundary(1) && script.is_boundary(4));
     assert!(rt; !script.is_boundary(2) && !script.is_boundary(3) && !script.is_boundary(5));
     assert_eq!(rt; script.char_len(0), Ok(1));
     assert_eq!(rt; script.char_len(1), Ok(3));
-    assert_eq!(rt; script.char_len(2), Err(Refusal::NoCharacter));
-    assert_eq!(rt; script.char_len(4), Err(Refusal::NoCharacter));
+    assert_eq!(rt; script.char_len(2), Err(NoCharacter));
+    assert_eq!(rt; script.char_len(4), Err(NoCharacter));
+    Ok(())
 }
 
 #[test]
@@ -60,5 +62,5 @@ fn numbers(rt: HostRuntime) {
     assert_eq!(rt; Refusal::TooLong.number(), 1);
     assert_eq!(rt; Refusal::NotUtf8 { at: 7 }.number(), 2);
     assert_eq!(rt; Refusal::NotUtf8 { at: 7 }.value(), Some(7));
-    assert_eq!(rt; Refusal::NoCharacter.number(), 21);
+    assert_eq!(rt; NoCharacter.number(), 21);
 }

@@ -35,9 +35,7 @@ fn check_lexed<S: RawSource>(
     let mut kinds = [777; 12];
     let mut places = [777; 12];
     let mut errors = [NO_ERROR; 12];
-    let Ok(counts) = lex(source, edition, &mut kinds, &mut places, &mut errors) else {
-        return Err(Fail::new("refused"));
-    };
+    let counts = lex(source, edition, &mut kinds, &mut places, &mut errors)?;
     if counts.tokens >= 11 || counts.errors > 12 {
         return Err(Fail::new("too many"));
     }
@@ -46,27 +44,14 @@ fn check_lexed<S: RawSource>(
     assert_eq!(rt; &places[..end], starts);
     assert_eq!(rt; kinds[end], 777);
     assert_eq!(rt; places[end], 777);
-    let code = first_error(
+    let lexed = LexedStr::offer(
         source.script().bytes(),
         &kinds[..end],
         &places[..end],
         &errors[..counts.errors],
     )?;
-    assert_eq!(rt; code, error);
+    assert_eq!(rt; lexed.error(0)?, error);
     Ok(())
-}
-
-fn first_error<'a>(
-    bytes: &'a [u8],
-    kinds: &'a [u16],
-    starts: &'a [u32],
-    errors: &'a [LexError],
-) -> Result<Option<u16>, Fail> {
-    let read = LexedStr::offer(bytes, kinds, starts, errors);
-    match (read.refused, read.lexed.error(0)) {
-        (None, Ok(code)) => Ok(code),
-        _ => Err(Fail::new("not read")),
-    }
 }
 
 #[test]
@@ -81,11 +66,10 @@ fn an_unknown_prefix_in_two_editions(rt: HostRuntime) -> Result<(), Fail> {
             3,
         ),
     ];
-    let made = Tape::new(b"if\"x\"", &marks, &[], 0);
-    assert!(rt; made.refused.is_none());
+    let tape = Tape::new(b"if\"x\"", &marks, &[], 0)?;
     check_lexed(
         &rt,
-        &made.tape,
+        &tape,
         1,
         &[kinds::IF_KW, kinds::STRING, kinds::EOF],
         &[0, 2, 5],
@@ -93,7 +77,7 @@ fn an_unknown_prefix_in_two_editions(rt: HostRuntime) -> Result<(), Fail> {
     )?;
     check_lexed(
         &rt,
-        &made.tape,
+        &tape,
         2,
         &[kinds::IDENT, kinds::STRING, kinds::EOF],
         &[0, 2, 5],
@@ -104,7 +88,7 @@ fn an_unknown_prefix_in_two_editions(rt: HostRuntime) -> Result<(), Fail> {
 #[test]
 fn a_source_of_ones_own(rt: HostRuntime) -> Result<(), Fail> {
     let own = Characters {
-        script: Script::admit(b"a\xC3\xA9b").script,
+        script: Script::admit(b"a\xC3\xA9b")?,
     };
     check_lexed(
         &rt,
@@ -118,7 +102,7 @@ fn a_source_of_ones_own(rt: HostRuntime) -> Result<(), Fail> {
 
 #[test]
 fn the_scanner(rt: HostRuntime) -> Result<(), Fail> {
-    let scan = Scanner::new(b"/**/a/*!b").scanner;
+    let scan = Scanner::new(b"/**/a/*!b")?;
     check_lexed(
         &rt,
         &scan,
@@ -132,7 +116,7 @@ fn the_scanner(rt: HostRuntime) -> Result<(), Fail> {
         &[0, 4, 5, 9],
         None,
     )?;
-    let scan = Scanner::new(b"1.2.x..").scanner;
+    let scan = Scanner::new(b"1.2.x..")?;
     check_lexed(
         &rt,
         &scan,
@@ -167,49 +151,38 @@ fn only_the_first_fault_of_a_character(rt: HostRuntime) -> Result<(), Fail> {
         EscapeError::LoneSlash,
         EscapeError::InvalidEscape,
     ];
-    let silent = Tape::new(b"'ab'", &marks, &faults, 0);
+    let silent = Tape::new(b"'ab'", &marks, &faults, 0)?;
     check_lexed(
         &rt,
-        &silent.tape,
+        &silent,
         3,
         &[kinds::CHAR, kinds::EOF],
         &[0, 4],
         None,
     )?;
-    let made = Tape::new(b"'ab'", &marks, &faults[1..], 0);
-    match made.refused {
-        Some(why) => {
+    match Tape::new(b"'ab'", &marks, &faults[1..], 0) {
+        Err(why) => {
             assert_eq!(rt; why.value(), Some(0));
             Ok(())
         },
-        None => Err(Fail::new("accepted")),
+        Ok(_) => Err(Fail::new("accepted")),
     }
 }
 
 #[test]
 fn one_token(rt: HostRuntime) -> Result<(), Fail> {
     let marks = [mark(0, RawKind::GuardedStrPrefix, 2)];
-    let made = Tape::new(b"##", &marks, &[], 0);
-    match (
-        single_token(&made.tape, 2),
-        single_token(&made.tape, 3),
-        single_token(&made.tape, 4),
-    ) {
-        (Ok(None), Ok(Some((kind, code))), Err(why)) => {
-            assert_eq!(rt; kind, kinds::ERROR);
-            assert_eq!(rt; code, Some(5));
-            assert_eq!(rt; why.number(), 3);
-            Ok(())
-        }
-        _ => Err(Fail::new("another answer")),
-    }
+    let tape = Tape::new(b"##", &marks, &[], 0)?;
+    assert_eq!(rt; single_token(&tape, 2), Ok(None));
+    assert_eq!(rt; single_token(&tape, 3), Ok(Some((kinds::ERROR, Some(5)))));
+    assert_eq!(rt; single_token(&tape, 4).map_err(|why| why.number()), Err(3));
+    Ok(())
 }
 
 #[test]
-fn no_name_is_joint(rt: HostRuntime) {
+fn no_name_is_joint(rt: HostRuntime) -> Result<(), Fail> {
     let kinds = [kinds::PLUS, kinds::IDENT, kinds::MINUS, kinds::EOF];
-    let read = LexedStr::offer(b"+a-", &kinds, &[0, 1, 2, 3], &[]);
-    assert!(rt; read.refused.is_none());
+    let lexed = LexedStr::offer(b"+a-", &kinds, &[0, 1, 2, 3], &[])?;
     let mut columns = ([0; 3], [0; 1], [0; 3], [0; 3]);
     let mut input = Input::new(
         &mut columns.0,
@@ -217,11 +190,12 @@ fn no_name_is_joint(rt: HostRuntime) {
         &mut columns.2,
         &mut columns.3,
     );
-    assert!(rt; to_input(&read.lexed, 3, &mut input).is_ok());
+    to_input(&lexed, 3, &mut input)?;
     assert_eq!(rt; input.len(), 3);
     for n in 0..3 {
         assert!(rt; matches!(input.is_joint(n), Ok(false)));
     }
     assert!(rt; matches!(input.is_joint(63), Ok(false)));
     assert!(rt; input.is_joint(64).is_err());
+    Ok(())
 }

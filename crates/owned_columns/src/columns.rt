@@ -1,6 +1,7 @@
 // Token columns of their own, for one script.
 ghost use Rattle.std.specs.Prelude.{◌≡◌, ◌+◌, ◌<◌, ◌≤◌, length, Ok, IfOk, vec_len};
 ghost use Rattle.script.specs.Admission.{most};
+ghost use Rattle.syntax_kind.specs.Editions.{edition_number};
 ghost use Rattle.lexed_str.specs.Columns.{Columns};
 ghost use Rattle.converter.specs.Lexes.{Keeps, Readable};
 ghost use Rattle.converter.specs.Meaning.{meaning};
@@ -11,6 +12,7 @@ use lexed_str::{LexError, LexedStr};
 use raw::RawSource;
 use script::Script;
 use std::alloc::{AllocError, Global};
+use syntax_kind::Edition;
 
 #[derive(Drop)]
 pub struct OwnedColumns {
@@ -36,10 +38,10 @@ impl OwnedColumns {
     pub fn lex<S: RawSource>(
         heap: Global,
         source: &S,
-        edition: u8,
+        edition: Edition,
     ) -> Result<OwnedColumns, AllocError>
         requires { edition ≤ 3 }
-        ensures { IfOk result (λ c. Holds (meaning (S.RawSource.script source.now) (S.RawSource.token source.now) (S.RawSource.faults source.now) (S.RawSource.shebang source.now)) edition c.kinds.items c.starts.items c.errors.items) }
+        ensures { IfOk result (λ c. Holds (meaning (S.RawSource.script source.now) (S.RawSource.token source.now) (S.RawSource.faults source.now) (S.RawSource.shebang source.now)) (edition_number edition) c.kinds.items c.starts.items c.errors.items) }
     {
         let mut columns = OwnedColumns::with_room(heap, source.script().bytes().len())?;
         let counts = fill(
@@ -63,29 +65,31 @@ impl OwnedColumns {
         ensures starts { result.starts.now ≡ self.now.starts.items }
         ensures errors { result.errors.now ≡ self.now.errors.items }
     {
-        LexedStr::of_script(
+        let Ok(lexed) = LexedStr::of_script(
             script,
             self.kinds.as_slice(),
             self.starts.as_slice(),
             self.errors.as_slice(),
-        )
-        .lexed
+        ) else {
+            unreachable()
+        };
+        lexed
     }
 }
 
 // Lexes the script into columns that have room for any script of its length.
 fn fill<S: RawSource>(
     source: &S,
-    edition: u8,
+    edition: Edition,
     kinds: &mut [u16],
     starts: &mut [u32],
     errors: &mut [LexError],
 ) -> Counts
-    requires { (edition ≤ 3) × (length (S.RawSource.script source.now) < length kinds.old) × (length (S.RawSource.script source.now) < length starts.old) × (length (S.RawSource.script source.now) ≤ length errors.old) }
-    ensures law { Keeps (meaning (S.RawSource.script source.now) (S.RawSource.token source.now) (S.RawSource.faults source.now) (S.RawSource.shebang source.now)) edition (Ok result) kinds.new starts.new errors.new }
+    requires { (length (S.RawSource.script source.now) < length kinds.old) × (length (S.RawSource.script source.now) < length starts.old) × (length (S.RawSource.script source.now) ≤ length errors.old) }
+    ensures law { Keeps (meaning (S.RawSource.script source.now) (S.RawSource.token source.now) (S.RawSource.faults source.now) (S.RawSource.shebang source.now)) (edition_number edition) (Ok result) kinds.new starts.new errors.new }
     ensures fit { Readable (meaning (S.RawSource.script source.now) (S.RawSource.token source.now) (S.RawSource.faults source.now) (S.RawSource.shebang source.now)) (Ok result) kinds.new starts.new errors.new }
 {
-    let Ok(counts) = lex(source, edition, kinds, starts, errors) else {
+    let Ok(counts) = lex(source, edition.number(), kinds, starts, errors) else {
         unreachable()
     };
     counts

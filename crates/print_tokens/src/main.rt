@@ -1,47 +1,44 @@
 //! Prints the tokens of the one-file Rust script on standard input, with their errors.
 #![tactic(auto)]
 
-mod columns;
 mod names;
 mod tokens;
 mod trouble;
 
-use columns::Columns;
+ghost use Rattle.std.specs.Prelude.{IfOk};
+ghost use Rattle.print_tokens.specs.Scanned.{Holds};
+
+use owned_columns::OwnedColumns;
 use raw::RawSource;
 use scanner::Scanner;
-use std::fmt::Display;
+use std::alloc::{AllocError, Global};
 use std::io::Read;
 use std::process::ExitCode;
+use syntax_kind::Edition;
 use tokens::Tokens;
 use trouble::Trouble;
 
 fn read_input(rt: &HostRuntime) -> Result<Vec<u8>, Trouble> {
     let mut bytes = Vec::new(rt.alloc());
-    match rt.stdin().read_to_end(&mut bytes) {
-        Ok(_) => Ok(bytes),
-        Err(why) => Err(Trouble::Input(why)),
-    }
+    rt.stdin()
+        .read_to_end(&mut bytes)
+        .map_err(Trouble::Input)?;
+    Ok(bytes)
 }
 
-// Every line that is printed goes through here.
-fn print_text(rt: &HostRuntime, text: impl Display + Drop) -> Result<(), Trouble> {
-    match rt.print(text) {
-        Ok(()) => Ok(()),
-        Err(why) => Err(Trouble::Output(why)),
-    }
+// The columns of the scanner's script, in the last edition.
+fn lex(heap: Global, scanner: &Scanner) -> Result<OwnedColumns, AllocError>
+    ensures { IfOk result (λ c. Holds scanner.now.script.bytes.now c.kinds.items c.starts.items c.errors.items) }
+{
+    OwnedColumns::lex(heap, scanner, Edition::Edition2024)
 }
 
 // The tokens of any script, also of one whose frontmatter has a fault.
 fn print_tokens(rt: &HostRuntime, bytes: &[u8]) -> Result<(), Trouble> {
-    let scanning = Scanner::new(bytes);
-    if let Some(why) = scanning.refused {
-        return Err(Trouble::Refused(why.number()));
-    }
-    let Ok(columns) = Columns::lex(rt.alloc(), &scanning.scanner) else {
-        return Err(Trouble::Memory);
-    };
-    let tokens = Tokens(columns.read(scanning.scanner.script()));
-    print_text(rt, format_args!("{tokens}\n"))
+    let scanner = Scanner::new(bytes)?;
+    let columns = lex(rt.alloc(), &scanner)?;
+    let tokens = Tokens(columns.read(scanner.script()));
+    rt.println(tokens).map_err(Trouble::Output)
 }
 
 fn run(rt: &HostRuntime) -> Result<(), Trouble> {

@@ -1,6 +1,6 @@
-// What kinds of tokens and codes of messages are called.
+// What kinds of tokens are called.
 
-// The names of the kinds that tokens have, by their numbers.
+// The names of the kinds that tokens have, by their numbers: a kind is its number, not a case of an enum.
 pub const KINDS: [&str; 160] = [
     "TOMBSTONE",
     "EOF",
@@ -162,47 +162,4 @@ pub const KINDS: [&str; 160] = [
     "OUTER_DOC_COMMENT",
     "SHEBANG",
     "WHITESPACE",
-];
-
-// The texts of the messages, by their codes. No message has the code 0.
-pub const MESSAGES: [&str; 39] = [
-    "",
-    "Missing trailing `*/` symbols to terminate the block comment",
-    "invalid preceding whitespace for frontmatter opening",
-    "invalid infostring for frontmatter",
-    "Ident contains invalid characters",
-    "Invalid string literal (reserved syntax)",
-    "Lifetime name cannot start with a number",
-    "Unknown lifetime prefix",
-    "unknown literal prefix (note: check for unterminated string literal)",
-    "unknown literal prefix",
-    "Invalid raw string literal",
-    "Missing digits after the integer base prefix",
-    "Missing digits after the exponent symbol",
-    "Missing trailing `'` symbol to terminate the character literal",
-    "Missing trailing `'` symbol to terminate the byte literal",
-    "Missing trailing `\"` symbol to terminate the string literal",
-    "Missing trailing `\"` symbol to terminate the byte string literal",
-    "Missing trailing `\"` symbol to terminate the C string literal",
-    "empty character literal",
-    "character literal may only contain one codepoint",
-    "unknown byte escape",
-    "unknown character escape",
-    "byte constant must be escaped",
-    "character constant must be escaped",
-    "numeric character escape is too short",
-    "invalid character in numeric character escape",
-    "out of range hex escape",
-    "incorrect unicode escape sequence",
-    "invalid character in unicode escape",
-    "empty unicode escape",
-    "unterminated unicode escape",
-    "invalid start of unicode escape",
-    "overlong unicode escape",
-    "invalid unicode character escape",
-    "unicode escape in byte string",
-    "non-ASCII character in byte literal",
-    "non-ASCII character in byte string literal",
-    "non-ASCII character in raw byte string literal",
-    "null character in C string literal",
 ];

@@ -3,7 +3,8 @@ ghost use Rattle.std.specs.Prelude.{◌≡◌, ◌+◌, ◌<◌};
 ghost use Rattle.lexed_str.specs.Columns.{tokens, kind_at, start_at};
 ghost use Rattle.lexed_str.specs.Reading.{texts};
 
-use crate::names::{KINDS, MESSAGES};
+use crate::names::KINDS;
+use converter::Message;
 use lexed_str::{LexError, LexedStr};
 use std::fmt;
 use std::ops::Range;
@@ -16,12 +17,21 @@ const SHOWN: usize = 40;
 pub struct Tokens<'a>(pub LexedStr<'a>);
 
 // One token.
+#[derive(Clone, Copy)]
 struct Line<'a> {
     start: usize,
     end: usize,
     kind: u16,
     text: &'a [u8],
 }
+
+// The errors of one token.
+#[derive(Clone, Copy)]
+struct Errors<'a>(&'a [LexError]);
+
+// A token's text, or as much of it as is shown.
+#[derive(Clone, Copy)]
+struct Text<'a>(&'a [u8]);
 
 impl<'a> Line<'a> {
     fn new(lexed: &LexedStr<'a>, i: usize) -> Line<'a>
@@ -49,90 +59,70 @@ impl<'a> Line<'a> {
     }
 }
 
-impl<'a> fmt::Display for Tokens<'a> {
+impl fmt::Display for Tokens<'_> {
     fn fmt<W: fmt::Write>(&self, f: &mut fmt::Formatter<W>) -> fmt::Result {
         let lexed = self.0;
         let len = lexed.len();
-        let errors = lexed.errors();
-        let mut next = 0;
+        let mut errors = lexed.errors();
         for i in 0..len {
-            write_line(f, Line::new(&lexed, i))?;
-            next = write_errors(f, errors, i, next)?;
+            let line = Line::new(&lexed, i);
+            let (own, later) = split_errors(errors, i);
+            let said = Errors(own);
+            write!(f, "{line}{said}")?;
+            errors = later;
         }
-        let count = errors.len();
+        let count = lexed.errors().len();
         write!(f, "{len} tokens, {count} errors")
     }
 }
 
-fn write_line<W: fmt::Write>(f: &mut fmt::Formatter<W>, line: Line) -> fmt::Result {
-    let Line {
-        start,
-        end,
-        kind,
-        text,
-    } = line;
-    let name = named(&KINDS, kind);
-    write!(f, "{start}..{end}  {name}  ")?;
-    write_text(f, text)?;
-    f.write_str("\n")
+// The errors of the token, where no earlier token's come first, and those of later tokens.
+fn split_errors(errors: &[LexError], token: usize) -> (&[LexError], &[LexError]) {
+    let end = errors
+        .iter()
+        .position(|error| error.token as usize != token)
+        .unwrap_or(errors.len());
+    errors.split_at(end)
 }
 
-// Writes the errors of the token, where the first of them stands at `from`; answers where those of later tokens stand.
-fn write_errors<W: fmt::Write>(
-    f: &mut fmt::Formatter<W>,
-    errors: &[LexError],
-    token: usize,
-    from: usize,
-) -> Result<usize, fmt::Error> {
-    for i in from..errors.len() {
-        if errors[i].token as usize != token {
-            return Ok(i);
+impl fmt::Display for Line<'_> {
+    fn fmt<W: fmt::Write>(&self, f: &mut fmt::Formatter<W>) -> fmt::Result {
+        let Line { start, end, .. } = *self;
+        let name = KINDS.get(self.kind as usize).copied().unwrap_or("?");
+        let text = Text(self.text);
+        write!(f, "{start}..{end}  {name}  {text}\n")
+    }
+}
+
+impl fmt::Display for Errors<'_> {
+    fn fmt<W: fmt::Write>(&self, f: &mut fmt::Formatter<W>) -> fmt::Result {
+        for LexError { code, .. } in self.0 {
+            write!(f, "    error {code}: ")?;
+            match Message::try_from(*code) {
+                Ok(message) => write!(f, "{message}\n")?,
+                Err(_) => f.write_str("?\n")?,
+            }
         }
-        let code = errors[i].code;
-        let message = named(&MESSAGES, code);
-        write!(f, "    error {code}: {message}\n")?;
+        Ok(())
     }
-    Ok(errors.len())
 }
 
-fn named(names: &[&'static str], number: u16) -> &'static str {
-    let i = number as usize;
-    if i < names.len() { names[i] } else { "?" }
+impl fmt::Display for Text<'_> {
+    fn fmt<W: fmt::Write>(&self, f: &mut fmt::Formatter<W>) -> fmt::Result {
+        for byte in self.0.iter().take(SHOWN) {
+            write_byte(f, *byte)?;
+        }
+        if self.0.len() > SHOWN {
+            f.write_str("...")?;
+        }
+        Ok(())
+    }
 }
 
-fn write_text<W: fmt::Write>(f: &mut fmt::Formatter<W>, text: &[u8]) -> fmt::Result {
-    for byte in text.iter().take(SHOWN) {
-        write_byte(f, *byte)?;
-    }
-    if text.len() > SHOWN {
-        f.write_str("...")?;
-    }
-    Ok(())
-}
-
-// A byte that is no printable ASCII is escaped, so that each token is one line of plain text.
+// A byte that is no printable ASCII is escaped, so that each token is one line of plain text. Quotes need no escape.
 fn write_byte<W: fmt::Write>(f: &mut fmt::Formatter<W>, byte: u8) -> fmt::Result {
-    if byte < b' ' || byte == b'\\' || byte > b'~' {
-        write_escaped(f, byte)
-    } else {
-        f.write_char(byte as char)
-    }
-}
-
-fn write_escaped<W: fmt::Write>(f: &mut fmt::Formatter<W>, byte: u8) -> fmt::Result {
-    match escape(byte) {
-        Some(letter) => write!(f, "\\{letter}"),
-        None => write!(f, "\\x{byte:02x}"),
-    }
-}
-
-// The letter of a byte that has an escape of its own.
-fn escape(byte: u8) -> Option<char> {
     match byte {
-        b'\n' => Some('n'),
-        b'\r' => Some('r'),
-        b'\t' => Some('t'),
-        b'\\' => Some('\\'),
-        _ => None,
+        b'\'' | b'"' => f.write_char(byte as char),
+        _ => write!(f, "{}", byte.escape_ascii()),
     }
 }

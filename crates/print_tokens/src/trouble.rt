@@ -1,7 +1,9 @@
 // What ends the program with a failure, and what is said of it on standard error.
+use std::alloc::AllocError;
+use std::error::Error;
 use std::{fmt, io};
 
-#[derive(Drop)]
+#[derive(Debug, Drop)]
 pub enum Trouble {
     Input(io::Error),
     Output(io::Error),
@@ -9,6 +11,18 @@ pub enum Trouble {
     Memory,
     // The bytes are no script; the number of the refusal.
     Refused(u8),
+}
+
+impl From<AllocError> for Trouble {
+    fn from(_: AllocError) -> Trouble {
+        Trouble::Memory
+    }
+}
+
+impl From<script::Refusal> for Trouble {
+    fn from(why: script::Refusal) -> Trouble {
+        Trouble::Refused(why.number())
+    }
 }
 
 impl fmt::Display for Trouble {
@@ -23,3 +37,5 @@ impl fmt::Display for Trouble {
         }
     }
 }
+
+impl Error for Trouble {}

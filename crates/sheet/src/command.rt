@@ -2,7 +2,17 @@
 ghost use Rattle.std.specs.Prelude.{◌≡◌};
 ghost use Rattle.sheet.specs.Commands.{is_help, is_option, word_command, command_of};
 
+use std::error::Error;
+use std::fmt;
+
 #[derive(Drop)]
+pub enum Command {
+    Help,
+    File(String),
+    Input,
+}
+
+#[derive(Debug, Drop)]
 pub enum Mistake {
     // An option that there is not.
     Unknown(String),
@@ -10,37 +20,40 @@ pub enum Mistake {
     Extra,
 }
 
-#[derive(Drop)]
-pub enum Command {
-    Help,
-    File(String),
-    Input,
-    Wrong(Mistake),
+impl fmt::Display for Mistake {
+    fn fmt<W: fmt::Write>(&self, f: &mut fmt::Formatter<W>) -> fmt::Result {
+        match self {
+            Mistake::Unknown(word) => write!(f, "no option {word}"),
+            Mistake::Extra => write!(f, "more than one argument"),
+        }
+    }
 }
+
+impl Error for Mistake {}
 
 impl Command {
     // The command of the first argument, and of whether another follows it.
-    pub fn new(first: Option<String>, more: bool) -> Command
+    pub fn new(first: Option<String>, more: bool) -> Result<Command, Mistake>
         ensures { result ≡ command_of first more }
     {
         if more {
-            return Command::Wrong(Mistake::Extra);
+            return Err(Mistake::Extra);
         }
         match first {
-            None => Command::Input,
+            None => Ok(Command::Input),
             Some(word) => Command::of_word(word),
         }
     }
 
-    fn of_word(word: String) -> Command
+    fn of_word(word: String) -> Result<Command, Mistake>
         ensures { result ≡ word_command word }
     {
         if is_help(word.as_str()) {
-            Command::Help
+            Ok(Command::Help)
         } else if is_option(word.as_bytes()) {
-            Command::Wrong(Mistake::Unknown(word))
+            Err(Mistake::Unknown(word))
         } else {
-            Command::File(word)
+            Ok(Command::File(word))
         }
     }
 }
@@ -54,5 +67,5 @@ fn is_help(word: &str) -> bool
 fn is_option(word: &[u8]) -> bool
     ensures { result ≡ is_option word.now }
 {
-    !word.is_empty() && word[0] == b'-'
+    matches!(word, [b'-', ..])
 }

@@ -28,30 +28,22 @@ prints why it was refused. Both end with status 1.
 ";
 
 fn read_command(rt: &HostRuntime) -> Result<Command, Trouble> {
-    match env::args(rt) {
-        Ok(mut args) => {
-            let _own = args.next();
-            let first = args.next();
-            Ok(Command::new(first, args.next().is_some()))
-        }
-        Err(why) => Err(Trouble::Arguments(why)),
-    }
+    let mut args = env::args(rt).map_err(Trouble::Arguments)?.skip(1);
+    let first = args.next();
+    Ok(Command::new(first, args.next().is_some())?)
 }
 
 // Every line that is printed goes through here.
 fn print_text(rt: &HostRuntime, text: impl Display + Drop) -> Result<(), Trouble> {
-    match rt.print(text) {
-        Ok(()) => Ok(()),
-        Err(why) => Err(Trouble::Output(why)),
-    }
+    rt.print(text).map_err(Trouble::Output)
 }
 
 fn read_input(rt: &HostRuntime) -> Result<Vec<u8>, Trouble> {
     let mut bytes = Vec::new(rt.alloc());
-    match rt.stdin().read_to_end(&mut bytes) {
-        Ok(_) => Ok(bytes),
-        Err(why) => Err(Trouble::Input(why)),
-    }
+    rt.stdin()
+        .read_to_end(&mut bytes)
+        .map_err(Trouble::Input)?;
+    Ok(bytes)
 }
 
 fn read_file(rt: &HostRuntime, path: String) -> Result<Vec<u8>, Trouble> {
@@ -76,7 +68,6 @@ fn run(rt: &HostRuntime) -> Result<(), Trouble> {
         Command::Help => print_text(rt, HELP),
         Command::File(path) => print_report(rt, read_file(rt, path)?.as_slice()),
         Command::Input => print_report(rt, read_input(rt)?.as_slice()),
-        Command::Wrong(mistake) => Err(Trouble::Usage(mistake)),
     }
 }
 

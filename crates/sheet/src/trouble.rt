@@ -1,8 +1,11 @@
 // What ends the program with a failure, and what is said of it on standard error.
+ghost use Rattle.std.specs.Prelude.{◌≡◌};
+
 use crate::command::Mistake;
+use std::error::Error;
 use std::{fmt, io};
 
-#[derive(Drop)]
+#[derive(Debug, Drop)]
 pub enum Trouble {
     Usage(Mistake),
     // The arguments are no text.
@@ -14,19 +17,23 @@ pub enum Trouble {
     Reported,
 }
 
+impl From<Mistake> for Trouble {
+    ghost use Rattle.sheet.specs.declared.trouble.Trouble.TheVariants as trouble;
+
+    ghost from_gives = { λ mistake r. r ≡ trouble.Usage mistake };
+
+    fn from(mistake: Mistake) -> Trouble {
+        Trouble::Usage(mistake)
+    }
+}
+
 impl fmt::Display for Trouble {
     fn fmt<W: fmt::Write>(&self, f: &mut fmt::Formatter<W>) -> fmt::Result {
         match self {
-            Trouble::Usage(Mistake::Unknown(word)) => {
+            Trouble::Usage(mistake) => {
                 write!(
                     f,
-                    "sheet: no option {word}; 'sheet --help' says what there is\n"
-                )
-            }
-            Trouble::Usage(Mistake::Extra) => {
-                write!(
-                    f,
-                    "sheet: more than one argument; 'sheet --help' says what there is\n"
+                    "sheet: {mistake}; 'sheet --help' says what there is\n"
                 )
             }
             Trouble::Arguments(why) => write!(f, "sheet: cannot read the arguments: {why}\n"),
@@ -37,3 +44,5 @@ impl fmt::Display for Trouble {
         }
     }
 }
+
+impl Error for Trouble {}

@@ -8,21 +8,21 @@ use lexed_str::LexedStr;
 use owned_columns::OwnedColumns;
 use raw::RawSource;
 use std::alloc::Global;
+use syntax_kind::Edition;
 use tape::Tape;
 
 // Writes the answer to a question; nothing where it is refused.
 pub fn answer(heap: Global, question: &Question, output: &mut String) -> Result<(), Failure> {
-    let recording = Tape::new(
+    let tape = Tape::new(
         question.script.as_slice(),
         question.recorded.marks.as_slice(),
         question.recorded.faults.as_slice(),
         question.recorded.shebang,
-    );
-    recording.checked()?;
-    let tape = recording.tape;
+    )?;
     match question.asked {
+        Asked::Columns => answer_columns(heap, &tape, question.edition, output),
+        Asked::Input => answer_input(heap, &tape, question.edition, output),
         Asked::Single => answer_single(&tape, question.edition, output),
-        _ => answer_tokens(heap, question, &tape, output),
     }
 }
 
@@ -32,28 +32,31 @@ fn answer_single(tape: &Tape, edition: u8, output: &mut String) -> Result<(), Fa
     Ok(())
 }
 
-fn answer_tokens(
+fn answer_columns(
     heap: Global,
-    question: &Question,
     tape: &Tape,
+    edition: u8,
     output: &mut String,
 ) -> Result<(), Failure> {
-    if question.edition > 3 {
-        return Err(syntax_kind::Refusal::Edition.into());
-    }
-    let columns = OwnedColumns::lex(heap, tape, question.edition)?;
-    let lexed = columns.read(tape.script());
-    match question.asked {
-        Asked::Input => answer_input(heap, &lexed, question.edition, output),
-        _ => {
-            let text = ColumnsText(lexed);
-            write!(output, "{text}")?;
-            Ok(())
-        }
-    }
+    let columns = OwnedColumns::lex(heap, tape, Edition::try_from(edition)?)?;
+    let text = ColumnsText(columns.read(tape.script()));
+    write!(output, "{text}")?;
+    Ok(())
 }
 
 fn answer_input(
+    heap: Global,
+    tape: &Tape,
+    edition: u8,
+    output: &mut String,
+) -> Result<(), Failure> {
+    let columns = OwnedColumns::lex(heap, tape, Edition::try_from(edition)?)?;
+    let lexed = columns.read(tape.script());
+    write_input(heap, &lexed, edition, output)
+}
+
+// The parser's input of the columns.
+fn write_input(
     heap: Global,
     lexed: &LexedStr,
     edition: u8,

@@ -1,6 +1,7 @@
 // Why a line has no answer of its kind.
 use questions::Refused;
 use std::alloc::{AllocError, AllocFailed};
+use syntax_kind::UnknownEdition;
 
 #[derive(Clone, Copy, Debug, PartialEq, Eq)]
 pub enum Failure {
@@ -33,12 +34,9 @@ impl From<tape::Refusal> for Failure {
     }
 }
 
-impl From<syntax_kind::Refusal> for Failure {
-    fn from(why: syntax_kind::Refusal) -> Failure {
-        Failure::Refused(Refused {
-            number: why.number(),
-            value: None,
-        })
+impl From<UnknownEdition> for Failure {
+    fn from(unknown: UnknownEdition) -> Failure {
+        Failure::from(converter::Refusal::from(unknown))
     }
 }
 

@@ -88,10 +88,7 @@ impl fmt::Display for SingleText {
         match self.0 {
             None => f.write_str("-"),
             Some((kind, code)) => {
-                let code = After {
-                    lead: ":",
-                    value: code,
-                };
+                let code = After(":", code);
                 write!(f, "{kind}{code}")
             }
         }

@@ -1,0 +1,7 @@
+use Rattle.std.proofs.Common.{subst}
+use Rattle.std.specs.Fmt.{DisplaysOnOk}
+use Rattle.answers.proofs.Texts.{parts_output}
+use Rattle.answers.proofs.text.PartsDisplay.fmt.Goals as goal
+
+pub returns-clause-writes : goal.returns-clause-writes
+returns-clause-writes g c = subst (λ out. DisplaysOnOk g.W.Write.write_str_gives c.args.f.now c.write.result out c.write.new.self) (parts_output c.args.self.now.0) c.write.ensures.writes

@@ -1,7 +1,0 @@
-use Rattle.std.proofs.Common.{refl}
-use lib.Utf8.{encode}
-use Rattle.cases.proofs.hold.Goals as goal
-
-pub returns : goal.returns
-unfolding encode
-returns c = record { count = c.requires; examples = (refl, refl, refl, refl, refl) }
