@@ -5,7 +5,8 @@ use Rattle.std.specs.Fmt.{decimal, ◌++?◌}
 use Rattle.frontmatter.specs.declared.source.ScriptSource.{ScriptSource}
 use Rattle.frontmatter.specs.declared.source.Span.{Span}
 use Rattle.answers.specs.declared.answer.Keywords.{Keywords}
-use Rattle.answers.specs.Texts.{span_text, part_text, parts_text, kind_text, kinds_text}
+use Rattle.frontmatter.specs.Texts.{span_text}
+use Rattle.answers.specs.Texts.{part_text, parts_text, kind_text, kinds_text}
 
 abbrev part : Option Span → Option (List ℕ)
 part o = option_map_or (λ s. Some (span_text s)) o (Some (codes "-"))

@@ -12,12 +12,10 @@ use Rattle.frontmatter.specs.declared.source.Failure.TheVariants.{Refused, Fault
 use Rattle.frontmatter.specs.declared.source.Fault.{Fault}
 use Rattle.frontmatter.specs.declared.source.ScriptSource.{ScriptSource}
 use Rattle.frontmatter.specs.declared.source.Span.{Span}
+use Rattle.frontmatter.specs.Texts.{span_text}
 use Rattle.answers.specs.declared.answer.Answer.{Answer}
 use Rattle.answers.specs.declared.answer.Answer.TheVariants.{Frontmatter, Keywords as KeywordsA, Trivia, Malformed}
 use Rattle.answers.specs.declared.answer.Keywords.{Keywords}
-
-abbrev pub span_text : Span → List ℕ
-span_text s = decimal s.start ++ (codes ".." ++ decimal s.end)
 
 abbrev pub part_text : Option Span → List ℕ
 part_text None = codes "-"

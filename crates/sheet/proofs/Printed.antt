@@ -4,7 +4,8 @@ use Rattle.std.specs.Option.{option_map_or}
 use Rattle.std.specs.Fmt.{◌++?◌}
 use Rattle.frontmatter.specs.declared.source.ScriptSource.{ScriptSource}
 use Rattle.frontmatter.specs.declared.source.Span.{Span}
-use Rattle.sheet.specs.Texts.{span_text, part_text, parts_text}
+use Rattle.frontmatter.specs.Texts.{span_text}
+use Rattle.sheet.specs.Texts.{part_text, parts_text}
 
 abbrev part : Option Span → Option (List ℕ)
 part o = option_map_or (λ s. Some (span_text s)) o (Some (codes "none"))

@@ -1,4 +1,3 @@
 pub mod Commands
-pub mod Meaning
 pub mod Reports
 pub mod Texts

@@ -1,19 +1,15 @@
 -- The text of a report.
 use Rattle.std.specs.Prelude.{ℕ, List, [], ◌++◌, Some, None, Ok, Err, codes, decimal, Option, Result}
 use Rattle.std.proofs.Math.Utf8.{encode}
-use Rattle.script.specs.Admission.{number}
+use Rattle.script.specs.Admission.{number, refusal_text as reason}
 use Rattle.script.specs.declared.refusal.Refusal.{Refusal}
-use Rattle.script.specs.declared.refusal.Refusal.TheVariants.{TooLong, NotUtf8, NoCharacter}
 use Rattle.frontmatter.specs.Parsing.{letter}
 use Rattle.frontmatter.specs.declared.source.Failure.{Failure}
 use Rattle.frontmatter.specs.declared.source.Failure.TheVariants.{Refused, Faulty}
 use Rattle.frontmatter.specs.declared.source.Fault.{Fault}
 use Rattle.frontmatter.specs.declared.source.ScriptSource.{ScriptSource}
 use Rattle.frontmatter.specs.declared.source.Span.{Span}
-use Rattle.sheet.specs.Meaning.{meaning_of}
-
-abbrev pub span_text : Span → List ℕ
-span_text s = decimal s.start ++ (codes ".." ++ decimal s.end)
+use Rattle.frontmatter.specs.Texts.{span_text, meaning_of}
 
 -- a part that may be missing
 abbrev pub part_text : Option Span → List ℕ
@@ -52,13 +48,8 @@ fault_text f =
     (span_text f.«open» ++
     close_line f.close)))))))
 
-abbrev pub reason : Refusal → List ℕ
-reason TooLong = codes ": longer than 4294967295 bytes"
-reason (NotUtf8 at) = codes ": not UTF-8, first at byte " ++ decimal at
-reason NoCharacter = codes ": no character begins there"
-
 abbrev pub refusal_text : Refusal → List ℕ
-refusal_text why = codes "refused      " ++ (decimal (number why) ++ reason why)
+refusal_text why = codes "refused      " ++ (decimal (number why) ++ (codes ": " ++ reason why))
 
 abbrev pub found_text : Result ScriptSource Failure → List ℕ
 found_text (Ok source) = parts_text source
