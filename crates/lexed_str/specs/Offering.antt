@@ -1,4 +1,4 @@
--- The test of columns that are offered, what it refuses, and what is held afterwards.
+-- The test of columns that are offered, and what it refuses.
 use Rattle.std.specs.Prelude.{ℕ, zero, suc, ◌+◌, ◌-◌, Bool, true, cond, not, ◌&&◌, List, length, Some, None, Option, ◌==◌, nat_le, nat_lt}
 use Rattle.script.specs.Admission.{refusal as script_refusal}
 use Rattle.script.specs.declared.refusal.Refusal.{Refusal as ScriptRefusal}
