@@ -69,6 +69,7 @@ impl Reader<'_> {
 
     // The first LF from the place on that has as many dashes after it, where there is one. The reader stays.
     // No LF from there on has more than `most` dashes after it.
+    #[inline(never)]
     fn trial(&mut self, dashes: usize, most: usize) -> Option<usize>
         requires { (k : ℕ) → self.old.at ≤ k → k < length self.old.bytes.now → at line_feed self.old.bytes.now k ≡ true → dash_end self.old.bytes.now (k + 1) ≤ k + 1 + most }
         ensures value { result ≡ trial_of self.old.bytes.now dashes self.old.at }
@@ -125,6 +126,7 @@ fn closes(bytes: &[u8], place: usize, dashes: usize) -> bool
 }
 
 // A number of dashes that no LF from the place on has more than after it: it tells which trials cannot succeed.
+#[inline(never)]
 fn most_dashes(bytes: &[u8], from: usize) -> usize
     ensures { (k : ℕ) → from ≤ k → k < length bytes.now → at line_feed bytes.now k ≡ true → dash_end bytes.now (k + 1) ≤ k + 1 + result }
 {

@@ -16,7 +16,9 @@ pub struct Script<'a> {
 }
 
 impl<'a> Script<'a> {
-    // The bytes as a script, where they are UTF-8 and not too long.
+    // The bytes as a script, where they are UTF-8 and not too long. Its loop stays a function of its own: among a
+    // caller's loops it is compiled to slower code.
+    #[inline(never)]
     pub fn admit(bytes: &'a [u8]) -> Result<Script<'a>, Refusal>
         ensures refused { result_err result ≡ refusal bytes.now }
         ensures script { IfOk result (λ script. script.bytes.now ≡ bytes.now) }
