@@ -1,5 +1,5 @@
 -- Which bytes are a script, and what each refusal says.
-use Rattle.std.specs.Prelude.{ℕ, ◌<◌, ◌≤◌, Bool, cond, ◌&&◌, List, [], ◌++◌, length, Some, None, Option, ◌==◌, nat_le, codes, decimal}
+use Rattle.std.specs.Prelude.{ℕ, ◌<◌, ◌≤◌, Bool, cond, ◌&&◌, List, ◌++◌, length, Some, None, Option, ◌==◌, nat_le, codes, decimal}
 use Rattle.script.specs.declared.refusal.Refusal.{Refusal}
 use Rattle.script.specs.declared.refusal.Refusal.TheVariants.{TooLong, NotUtf8}
 use Rattle.script.specs.Sequences.{run_end}
@@ -20,10 +20,6 @@ admits bs = nat_le (length bs) most && ill_formed bs == length bs
 -- why bytes are no script
 abbrev pub refusal : List ℕ → Option Refusal
 refusal bs = cond (nat_le (length bs) most) (cond (ill_formed bs == length bs) None (Some (NotUtf8 (ill_formed bs)))) (Some TooLong)
-
--- the script that is admitted: the bytes, or none of them where they are refused
-abbrev pub admitted : List ℕ → List ℕ
-admitted bs = cond (admits bs) bs []
 
 -- the number of each refusal
 abbrev pub number : Refusal → ℕ
