@@ -3,6 +3,7 @@ ghost use Rattle.std.specs.Prelude.{◌≡◌, true};
 ghost use Rattle.input.specs.Fitting.{fitting};
 
 // Its first `len` places hold entries, and the others are free. The joint marks are bits, 64 to a word.
+// The columns are lent by the caller, as numbers: nothing is allocated here, and the caller reads what they hold.
 // No `impl Model`: behind one, whoever lends the columns no longer learns what they hold at the end.
 #[derive(Drop)]
 pub struct Input<'a> {

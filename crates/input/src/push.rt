@@ -12,7 +12,7 @@ use crate::marks;
 use crate::refusal::Refusal;
 use syntax_kind::{Edition, kinds as kind_numbers};
 
-// An entry to put in.
+// An entry to put in. A kind is its number.
 #[derive(Clone, Copy)]
 pub(crate) struct Entry {
     pub(crate) kind: u16,
@@ -86,7 +86,7 @@ impl<'a> Input<'a> {
         Ok(())
     }
 
-    // The edition of this number, where an entry of that kind can be put in.
+    // The edition of this number, where an entry of that kind can be put in: whoever pushes gives numbers.
     fn admit(&self, kind: u16, edition: u8) -> Result<Edition, Refusal>
         ensures { MatchResult result (λ e. (edition_number e ≡ edition) × (push_refusal kind edition (columns_of self.now) ≡ None)) (λ why. push_refusal kind edition (columns_of self.now) ≡ Some why) }
     {
