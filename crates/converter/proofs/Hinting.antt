@@ -1,17 +1,6 @@
--- One turn of the search for bytes.
-use Rattle.std.proofs.Common.{◌≡◌, ℕ, zero, suc, ◌+◌, ◌-◌, ◌<◌, Bool, true, false, ◌||◌, ◌⊎◌, List, get_or, sym, refl, ap, ◌∙◌, ⊎_elim, arith}
-use Rattle.converter.specs.Hints.{any_from, suspect, hint}
-
-any_more : (test : ℕ → Bool) (end i : ℕ) → i < end → any_from test (end - i) i ≡ (test i || any_from test (end - (i + 1)) (i + 1))
-any_more test end i l =
-    let e : end - i ≡ suc (end - (i + 1)) = omega arith in
-    ap (λ n. any_from test n i) e
-
-pub any_here : (test : ℕ → Bool) (end i : ℕ) (whole : Bool) → i < end → test i ≡ true → any_from test (end - i) i ≡ whole → whole ≡ true
-any_here test end i whole l t e = sym e ∙ any_more test end i l ∙ ap (λ b. b || any_from test (end - (i + 1)) (i + 1)) t
-
-pub any_later : (test : ℕ → Bool) (end i : ℕ) (whole : Bool) → i < end → test i ≡ false → any_from test (end - i) i ≡ whole → any_from test (end - (i + 1)) (i + 1) ≡ whole
-any_later test end i whole l t e = sym (any_more test end i l ∙ ap (λ b. b || any_from test (end - (i + 1)) (i + 1)) t) ∙ e
+-- The hint, token by token.
+use Rattle.std.proofs.Common.{◌≡◌, ℕ, zero, suc, ◌-◌, ◌<◌, true, false, ◌||◌, ◌⊎◌, List, get_or, sym, refl, ap, ◌∙◌, ⊎_elim, arith}
+use Rattle.converter.specs.Hints.{suspect, hint}
 
 pub hint_none : (bs ks ss : List ℕ) (looks n end : ℕ) → (looks ≡ 0) ⊎ ((looks ≡ 0 → ⊥) × (n ≡ 0)) → false ≡ hint bs ks ss looks n end
 hint_none bs ks ss zero n end h = refl

@@ -16,3 +16,4 @@ pub mod Readable
 pub mod Telling
 pub mod Writing
 pub mod Converted
+pub mod Seeking

@@ -1,9 +1,13 @@
 -- The hint that a string is likely unterminated: one of the last five tokens is a string whose text has a parenthesis, and a
 -- comment's `//` or the end of a statement's line.
-use Rattle.std.specs.Prelude.{ℕ, zero, suc, ◌+◌, ◌-◌, Bool, false, ◌&&◌, ◌||◌, List, length, ◌==◌, nat_lt, slice_index}
+use Rattle.std.specs.Prelude.{ℕ, zero, suc, ◌+◌, ◌-◌, Bool, false, ◌&&◌, ◌||◌, List, [], ◌∷◌, length, take, ◌==◌, nat_lt, slice_index}
+use Rattle.std.specs.Str.{bytes_eq}
 use Rattle.converter.specs.Names.{STRING}
-use Rattle.converter.specs.declared.hint.Sought.{Sought}
-use Rattle.converter.specs.declared.hint.Sought.TheVariants.{One, Two}
+
+-- one byte, or two in a row
+pub data Sought : Type 0 where
+  One : ℕ → Sought
+  Two : ℕ → ℕ → Sought
 
 -- the byte, or the two bytes, stand at the place i of the text that ends at `end`
 abbrev pub stands : List ℕ → ℕ → Sought → ℕ → Bool
@@ -31,3 +35,11 @@ hint bs kinds starts zero n end = false
 hint bs kinds starts (suc looks) zero end = false
 hint bs kinds starts (suc looks) (suc n) end =
     suspect bs (slice_index kinds n) (slice_index starts n) end || hint bs kinds starts looks n (slice_index starts n)
+
+-- as the code finds it, in the text alone: the bytes stand somewhere in it
+abbrev pub somewhere : List ℕ → List ℕ → Bool
+somewhere what [] = false
+somewhere what (x ∷ xs) = bytes_eq (take (length what) (x ∷ xs)) what || somewhere what xs
+
+abbrev pub tells : List ℕ → Bool
+tells text = somewhere (0x28 ∷ []) text && (somewhere (0x2F ∷ 0x2F ∷ []) text || somewhere (0x3B ∷ 0x0A ∷ []) text)

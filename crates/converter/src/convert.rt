@@ -176,7 +176,7 @@ impl<'a, S: RawSource> Converter<'a, S> {
         requires { self.old.so_far.place ≡ length (S.RawSource.script self.old.source.now) }
         ensures same { (self.new.source.now ≡ self.old.source.now) × (self.new.edition ≡ self.old.edition) × (self.new.kinds.ghost_name ≡ self.old.kinds.ghost_name) × (self.new.starts.ghost_name ≡ self.old.starts.ghost_name) × (self.new.errors.ghost_name ≡ self.old.errors.ghost_name) }
         ensures counts { (result.tokens ≡ self.old.so_far.tokens) × (result.errors ≡ self.old.so_far.errors) }
-        ensures kinds { self.new.kinds.now ≡ slice_set self.old.kinds.now self.old.so_far.tokens 1 }
+        ensures kinds { self.new.kinds.now ≡ slice_set self.old.kinds.now self.old.so_far.tokens EOF }
         ensures starts { self.new.starts.now ≡ slice_set self.old.starts.now self.old.so_far.tokens self.old.so_far.place }
         ensures errors { self.new.errors.now ≡ self.old.errors.now }
     {

@@ -1,15 +1,8 @@
 // The hint that a string before an unknown prefix is likely unterminated.
-ghost use Rattle.std.specs.Prelude.{◌≡◌, ◌≤◌, length};
-ghost use Rattle.converter.specs.Hints.{stands, contains, telling, suspect, hint};
+ghost use Rattle.std.specs.Prelude.{◌≡◌, ◌<◌, ◌≤◌, length};
+ghost use Rattle.converter.specs.Hints.{somewhere, tells, suspect, hint};
 
 use syntax_kind::kinds;
-
-// One byte, or two in a row.
-#[derive(Clone, Copy)]
-pub(crate) enum Sought {
-    One { byte: u8 },
-    Two { first: u8, second: u8 },
-}
 
 // Whether one of the last `looks` of `count` tokens, the last of which ends at `end`, is such a string.
 pub(crate) fn has_likely_unterminated_string(
@@ -37,55 +30,21 @@ pub(crate) fn has_likely_unterminated_string(
 fn is_suspect(script: &[u8], kind: u16, start: usize, end: usize) -> bool
     ensures { result ≡ suspect script.now kind start end }
 {
-    kind == kinds::STRING && is_telling(script, start, end)
+    kind == kinds::STRING
+        && script
+            .get(start..end.min(script.len()))
+            .is_some_and(is_telling)
 }
 
-fn is_telling(script: &[u8], start: usize, end: usize) -> bool
-    ensures { result ≡ telling script.now start end }
+fn is_telling(text: &[u8]) -> bool
+    ensures { result ≡ tells text.now }
 {
-    contains(script, start, end, Sought::One { byte: b'(' })
-        && (contains(
-            script,
-            start,
-            end,
-            Sought::Two {
-                first: b'/',
-                second: b'/',
-            },
-        ) || contains(
-            script,
-            start,
-            end,
-            Sought::Two {
-                first: b';',
-                second: b'\n',
-            },
-        ))
+    has(text, b"(") && (has(text, b"//") || has(text, b";\n"))
 }
 
-fn contains(script: &[u8], start: usize, end: usize, sought: Sought) -> bool
-    ensures { result ≡ contains script.now start end sought }
+fn has(text: &[u8], what: &[u8]) -> bool
+    requires { 0 < length what.now }
+    ensures { result ≡ somewhere what.now text.now }
 {
-    for i in start..end {
-        if stands(script, end, sought, i) {
-            return true;
-        }
-    }
-    false
-}
-
-fn stands(script: &[u8], end: usize, sought: Sought, i: usize) -> bool
-    requires { i ≤ end }
-    ensures { result ≡ stands script.now end sought i }
-{
-    match sought {
-        Sought::One { byte } => i < script.len() && script[i] == byte,
-        Sought::Two { first, second } => {
-            end - i > 1
-                && i < script.len()
-                && script.len() - i > 1
-                && script[i] == first
-                && script[i + 1] == second
-        }
-    }
+    text.windows(what.len()).any(|window| window == what)
 }
