@@ -1,14 +1,12 @@
 -- The mark that the search for a place finds. Assumes nothing.
-use Rattle.std.proofs.Common.{◌≡◌, ℕ, ◌≤◌, Bool, true, false, cond, ◌&&◌, eqb, leb, List, [], ◌∷◌, map, length, Some, None, Option, IfSome, sym, refl, ap, ◌∙◌, arith}
+use Rattle.std.proofs.Common.{◌≡◌, ℕ, ◌≤◌, Bool, true, false, cond, eqb, List, [], ◌∷◌, map, length, Some, None, Option, IfSome, sym, refl, ap, ◌∙◌, arith}
 use Rattle.std.specs.List.{slice_get}
 use Rattle.std.specs.Option.{option_and_then}
-use Rattle.std.proofs.lemmas.Bool.{and_parts, leb-true, eqb-true}
+use Rattle.std.proofs.lemmas.Bool.Decides.{nat_tests}
 use Rattle.records.specs.Keys.{Ascending, first, later}
-use Rattle.raw.specs.Answers.{begins}
-use Rattle.raw.specs.Laws.{keeps, shebang_keeps}
 use Rattle.tape.specs.declared.mark.Mark.{Mark}
 use Rattle.tape.specs.declared.tape.Tape.{Tape}
-use Rattle.tape.specs.Rules.{token_of, fault_count, has_part, lawful_count}
+use Rattle.tape.specs.Rules.{lawful_count}
 use Rattle.tape.specs.Meaning.{mark_at}
 use Rattle.tape.specs.TapeLaws.{found}
 use Rattle.tape.proofs.Counts.{keep, ascends, in_order}
@@ -32,9 +30,7 @@ marked p (m ∷ ms) = marked_step p m ms (eqb m.place p) (marked p ms)
 -- what a tape's test says of its marks
 module _ (tape : Tape) where
   all_lawful : lawful_count tape.script.bytes.now (length tape.faults.now) tape.marks.now ≡ length tape.marks.now
-  all_lawful =
-      let n = lawful_count tape.script.bytes.now (length tape.faults.now) tape.marks.now in
-      eqb-true n (length tape.marks.now) (and_parts (eqb n (length tape.marks.now)) (shebang_keeps tape.script.bytes.now tape.shebang) tape.fits).0
+  all_lawful = let test = tape.fits in grind (arith, nat_tests)
 
   ascending : Ascending (places tape.marks.now)
   ascending =
@@ -49,12 +45,8 @@ module _ (tape : Tape) where
   -- a mark's part of the fault column lies within it
   part : (p : ℕ) (m : Mark) → mark_at p tape.marks.now ≡ Some m → (m.faults_from ≤ m.faults_to) × (m.faults_to ≤ length tape.faults.now)
   part p m e =
-      let bs = tape.script.bytes.now in
-      let column = length tape.faults.now in
-      let f = found bs column 0 p tape.marks.now m all_lawful e in
-      let rest = (and_parts (begins bs m.place && leb f.0 m.place) (has_part column m && keeps bs m.place (token_of m) (fault_count m)) f.1).1 in
-      let part = and_parts (leb m.faults_from m.faults_to) (leb m.faults_to column) (and_parts (has_part column m) (keeps bs m.place (token_of m) (fault_count m)) rest).0 in
-      (leb-true m.faults_from m.faults_to part.0, leb-true m.faults_to column part.1)
+      let test = (found tape.script.bytes.now (length tape.faults.now) 0 p tape.marks.now m all_lawful e).1 in
+      (grind (arith, nat_tests), grind (arith, nat_tests))
 
   pub part_within : (p : ℕ) (o : Option Mark) → o ≡ mark_at p tape.marks.now → IfSome o (λ m. (m.faults_from ≤ m.faults_to) × (m.faults_to ≤ length tape.faults.now))
   part_within p None e = tt

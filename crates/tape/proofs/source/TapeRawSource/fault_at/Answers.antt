@@ -5,5 +5,5 @@ use Rattle.tape.proofs.source.TapeRawSource.fault_at.Goals as goal
 
 pub returns : goal.returns
 returns c =
-    let read = fault_read c.faults_at.result.now c.args.number c.get.result c.get.ensures.lookup in
+    let read = fault_read c.faults_at.result.now _ c.get.result c.get.ensures.lookup in
     grind (arith, nat_tests)
