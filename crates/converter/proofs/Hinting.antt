@@ -1,11 +1,23 @@
 -- The hint, token by token.
-use Rattle.std.proofs.Common.{◌≡◌, ℕ, zero, suc, ◌-◌, ◌<◌, true, false, ◌||◌, ◌⊎◌, List, get_or, sym, refl, ap, ◌∙◌, ⊎_elim, arith}
+use Rattle.std.proofs.Common.{◌≡◌, ℕ, zero, suc, ◌-◌, ◌<◌, ◌≤◌, Bool, true, false, ◌||◌, List, get_or, sym, refl, ap, ◌∙◌, ⊎_elim, arith}
+use Rattle.std.proofs.lemmas.Bool.{cases_lt}
 use Rattle.converter.specs.Hints.{suspect, hint}
 
-pub hint_none : (bs ks ss : List ℕ) (looks n end : ℕ) → (looks ≡ 0) ⊎ ((looks ≡ 0 → ⊥) × (n ≡ 0)) → false ≡ hint bs ks ss looks n end
-hint_none bs ks ss zero n end h = refl
-hint_none bs ks ss (suc looks) zero end h = refl
-hint_none bs ks ss (suc looks) (suc n) end h = ⊎_elim (λ e. absurd (omega arith)) (λ e. absurd (omega (arith, e.1))) h
+-- no looks are left
+pub hint_end : (bs ks ss : List ℕ) (looks n end : ℕ) (all : Bool) → looks ≡ 0 → hint bs ks ss looks n end ≡ all → false ≡ all
+hint_end bs ks ss looks n end all none is = sym (ap (λ k. hint bs ks ss k n end) none) ∙ is
+
+-- as many looks as there are tokens are enough
+hint_enough : (bs ks ss : List ℕ) (looks n end : ℕ) → n ≤ looks → hint bs ks ss n n end ≡ hint bs ks ss looks n end
+hint_enough bs ks ss zero zero end l = refl
+hint_enough bs ks ss zero (suc n) end l = absurd (omega arith)
+hint_enough bs ks ss (suc looks) zero end l = refl
+hint_enough bs ks ss (suc looks) (suc n) end l = ap (λ b. suspect bs (get_or ks n 0) (get_or ss n 0) end || b) (hint_enough bs ks ss looks n (get_or ss n 0) (omega arith))
+
+pub hint_all : (bs ks ss : List ℕ) (n end : ℕ) → hint bs ks ss (n - (n - 5)) n end ≡ hint bs ks ss 5 n end
+hint_all bs ks ss n end =
+    ⊎_elim (λ lt. let e : n - (n - 5) ≡ n = omega arith in ap (λ k. hint bs ks ss k n end) e ∙ hint_enough bs ks ss 5 n end (omega arith))
+    (λ ge. let e : n - (n - 5) ≡ 5 = omega arith in ap (λ k. hint bs ks ss k n end) e) (cases_lt n 5)
 
 hint_step : (bs ks ss : List ℕ) (looks n end : ℕ) → 0 < looks → 0 < n
     → (suspect bs (get_or ks (n - 1) 0) (get_or ss (n - 1) 0) end || hint bs ks ss (looks - 1) (n - 1) (get_or ss (n - 1) 0)) ≡ hint bs ks ss looks n end

@@ -103,7 +103,6 @@ impl<'a, S: RawSource> Converter<'a, S> {
                     self.source.script().bytes(),
                     self.kinds,
                     self.starts,
-                    5,
                     self.so_far.tokens,
                     self.so_far.place,
                 ),

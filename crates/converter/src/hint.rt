@@ -4,27 +4,26 @@ ghost use Rattle.converter.specs.Hints.{somewhere, tells, suspect, hint};
 
 use syntax_kind::kinds;
 
-// Whether one of the last `looks` of `count` tokens, the last of which ends at `end`, is such a string.
+// Whether one of the last five of `count` tokens, the last of which ends at `end`, is such a string.
 pub(crate) fn has_likely_unterminated_string(
     script: &[u8],
     kinds: &[u16],
     starts: &[u32],
-    looks: u8,
     count: usize,
     end: usize,
 ) -> bool
     requires { (count ≤ length kinds.now) × (count ≤ length starts.now) }
-    ensures { result ≡ hint script.now kinds.now starts.now looks count end }
+    ensures { result ≡ hint script.now kinds.now starts.now 5 count end }
 {
-    if looks == 0 || count == 0 {
-        return false;
+    let mut end = end;
+    for i in (count.saturating_sub(5)..count).rev() {
+        let start = starts[i] as usize;
+        if is_suspect(script, kinds[i], start, end) {
+            return true;
+        }
+        end = start;
     }
-    let last = count - 1;
-    let start = starts[last] as usize;
-    if is_suspect(script, kinds[last], start, end) {
-        return true;
-    }
-    has_likely_unterminated_string(script, kinds, starts, looks - 1, last, start)
+    false
 }
 
 fn is_suspect(script: &[u8], kind: u16, start: usize, end: usize) -> bool
