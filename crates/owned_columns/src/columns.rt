@@ -40,7 +40,6 @@ impl OwnedColumns {
         source: &S,
         edition: Edition,
     ) -> Result<OwnedColumns, AllocError>
-        requires { edition ≤ 3 }
         ensures { IfOk result (λ c. Holds (meaning (S.RawSource.script source.now) (S.RawSource.token source.now) (S.RawSource.faults source.now) (S.RawSource.shebang source.now)) (edition_number edition) c.kinds.items c.starts.items c.errors.items) }
     {
         let mut columns = OwnedColumns::with_room(heap, source.script().bytes().len())?;
