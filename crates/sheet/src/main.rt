@@ -38,6 +38,7 @@ fn print_text(rt: &HostRuntime, text: impl Display + Drop) -> Result<(), Trouble
     rt.print(text).map_err(Trouble::Output)
 }
 
+// The same lines as in `print_tokens`: a crate for them would be longer than they are, and the error is the program's own.
 fn read_input(rt: &HostRuntime) -> Result<Vec<u8>, Trouble> {
     let mut bytes = Vec::new(rt.alloc());
     rt.stdin()

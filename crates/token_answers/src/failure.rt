@@ -24,7 +24,7 @@ impl<T: Drop> From<AllocFailed<T>> for Failure {
     }
 }
 
-// Each library has refusals of its own type, so each has its own conversion.
+// Each library has refusals of its own type, so each has its own conversion; macros may write no impls.
 impl From<tape::Refusal> for Failure {
     fn from(why: tape::Refusal) -> Failure {
         Failure::Refused(Refused {

@@ -1,4 +1,4 @@
-// Raw kinds and escape faults by their numbers.
+// Raw kinds and escape faults by their numbers. Functions, not a `From`: its newtype of a number would be made only to be taken apart.
 ghost use Rattle.std.specs.Prelude.{◌≡◌, ◌<◌, ◌≤◌, min, MatchOption};
 ghost use Rattle.raw.specs.declared.kinds.RawKind.TheVariants.{BlockComment, Frontmatter};
 ghost use Rattle.token_answers.specs.Numbers.{kind_number, literal_number, fault_number};
