@@ -3,9 +3,6 @@ use Rattle.std.proofs.Common.{◌≡◌, ℕ, zero, suc, ◌+◌, ◌-◌, ◌<�
 use Rattle.std.proofs.lemmas.Bool.{cond-true, cond-false, cases_eq, cases_lt, cases_order, both_ways}
 use Rattle.frontmatter.specs.Searches.{seek, seek_back, first, past_last}
 
-pub first_none : (t : ℕ → Bool) (p e : ℕ) → e ≤ p → first t p e ≡ p
-first_none t p e l = let n : e - p ≡ 0 = omega arith in ap (seek t p) n
-
 pub first_here : (t : ℕ → Bool) (p e : ℕ) → p < e → t p ≡ true → first t p e ≡ p
 first_here t p e l h =
     let n : e - p ≡ suc (e - (p + 1)) = omega arith in
@@ -15,9 +12,6 @@ pub first_later : (t : ℕ → Bool) (p e : ℕ) → p < e → t p ≡ false →
 first_later t p e l h =
     let n : e - p ≡ suc (e - (p + 1)) = omega arith in
     ap (seek t p) n ∙ cond-false (t p) p (seek t (p + 1) (e - (p + 1))) h
-
-pub last_none : (t : ℕ → Bool) (p e : ℕ) → e ≤ p → past_last t p e ≡ p
-last_none t p e l = let n : e - p ≡ 0 = omega arith in ap (seek_back t p) n
 
 last_by : (t : ℕ → Bool) (p e : ℕ) → p < e → past_last t p e ≡ cond (t (e - 1)) e (past_last t p (e - 1))
 last_by t p e l =
