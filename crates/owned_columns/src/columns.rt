@@ -15,57 +15,56 @@ use std::alloc::{AllocError, Global};
 use syntax_kind::Edition;
 
 #[derive(Drop)]
-pub struct OwnedColumns {
-    pub kinds: Vec<u16>,
-    pub starts: Vec<u32>,
-    pub errors: Vec<LexError>,
+pub struct OwnedColumns<'a> {
+    script: Script<'a>,
+    kinds: Vec<u16>,
+    starts: Vec<u32>,
+    errors: Vec<LexError>,
+    ghost fits: { Columns script.bytes.now kinds.items starts.items errors.items },
 }
 
-impl OwnedColumns {
-    // Columns with room for the tokens and errors of a script of `len` bytes.
-    fn with_room(heap: Global, len: usize) -> Result<OwnedColumns, AllocError>
-        requires { len ≤ most }
-        ensures { IfOk result (λ c. (vec_len c.kinds ≡ len + 1) × (vec_len c.starts ≡ len + 1) × (vec_len c.errors ≡ len)) }
-    {
-        Ok(OwnedColumns {
-            kinds: vec![in heap; 0u16; len + 1]?,
-            starts: vec![in heap; 0u32; len + 1]?,
-            errors: vec![in heap; LexError { token: 0, code: 0 }; len]?,
-        })
-    }
-
+impl<'a> OwnedColumns<'a> {
     /// The columns of the source's script in the edition.
     pub fn lex<S: RawSource>(
         heap: Global,
-        source: &S,
+        source: &'a S,
         edition: Edition,
-    ) -> Result<OwnedColumns, AllocError>
-        ensures { IfOk result (λ c. Holds (meaning (S.RawSource.script source.now) (S.RawSource.token source.now) (S.RawSource.faults source.now) (S.RawSource.shebang source.now)) (edition_number edition) c.kinds.items c.starts.items c.errors.items) }
+    ) -> Result<OwnedColumns<'a>, AllocError>
+        ensures script { IfOk result (λ c. c.script.bytes.now ≡ S.RawSource.script source.now) }
+        ensures holds { IfOk result (λ c. Holds (meaning (S.RawSource.script source.now) (S.RawSource.token source.now) (S.RawSource.faults source.now) (S.RawSource.shebang source.now)) (edition_number edition) c.kinds.items c.starts.items c.errors.items) }
     {
-        let mut columns = OwnedColumns::with_room(heap, source.script().bytes().len())?;
+        let script = source.script();
+        let len = script.bytes().len();
+        let mut kinds = vec![in heap; 0u16; len + 1]?;
+        let mut starts = vec![in heap; 0u32; len + 1]?;
+        let mut errors = vec![in heap; LexError { token: 0, code: 0 }; len]?;
         let counts = fill(
             source,
             edition,
-            columns.kinds.as_mut_slice(),
-            columns.starts.as_mut_slice(),
-            columns.errors.as_mut_slice(),
+            kinds.as_mut_slice(),
+            starts.as_mut_slice(),
+            errors.as_mut_slice(),
         );
-        columns.kinds.truncate(counts.tokens + 1);
-        columns.starts.truncate(counts.tokens + 1);
-        columns.errors.truncate(counts.errors);
-        Ok(columns)
+        kinds.truncate(counts.tokens + 1);
+        starts.truncate(counts.tokens + 1);
+        errors.truncate(counts.errors);
+        Ok(OwnedColumns {
+            script,
+            kinds,
+            starts,
+            errors,
+        })
     }
 
-    /// The columns of the script, to be read.
-    pub fn read<'a>(&'a self, script: Script<'a>) -> LexedStr<'a>
-        requires { Columns script.bytes.now self.now.kinds.items self.now.starts.items self.now.errors.items }
-        ensures script { result.script.bytes.now ≡ script.entry.bytes.now }
+    /// The columns, to be read.
+    pub fn read(&self) -> LexedStr<'_>
+        ensures script { result.script.bytes.now ≡ self.now.script.bytes.now }
         ensures kinds { result.kinds.now ≡ self.now.kinds.items }
         ensures starts { result.starts.now ≡ self.now.starts.items }
         ensures errors { result.errors.now ≡ self.now.errors.items }
     {
         let Ok(lexed) = LexedStr::of_script(
-            script,
+            self.script,
             self.kinds.as_slice(),
             self.starts.as_slice(),
             self.errors.as_slice(),

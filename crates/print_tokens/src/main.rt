@@ -9,7 +9,6 @@ ghost use Rattle.std.specs.Prelude.{IfOk};
 ghost use Rattle.print_tokens.specs.Scanned.{Holds};
 
 use owned_columns::OwnedColumns;
-use raw::RawSource;
 use scanner::Scanner;
 use std::alloc::{AllocError, Global};
 use std::io::Read;
@@ -20,14 +19,12 @@ use trouble::Trouble;
 
 fn read_input(rt: &HostRuntime) -> Result<Vec<u8>, Trouble> {
     let mut bytes = Vec::new(rt.alloc());
-    rt.stdin()
-        .read_to_end(&mut bytes)
-        .map_err(Trouble::Input)?;
+    rt.stdin().read_to_end(&mut bytes).map_err(Trouble::Input)?;
     Ok(bytes)
 }
 
 // The columns of the scanner's script, in the last edition.
-fn lex(heap: Global, scanner: &Scanner) -> Result<OwnedColumns, AllocError>
+fn lex<'a>(heap: Global, scanner: &'a Scanner) -> Result<OwnedColumns<'a>, AllocError>
     ensures { IfOk result (λ c. Holds scanner.now.script.bytes.now c.kinds.items c.starts.items c.errors.items) }
 {
     OwnedColumns::lex(heap, scanner, Edition::Edition2024)
@@ -37,7 +34,7 @@ fn lex(heap: Global, scanner: &Scanner) -> Result<OwnedColumns, AllocError>
 fn print_tokens(rt: &HostRuntime, bytes: &[u8]) -> Result<(), Trouble> {
     let scanner = Scanner::new(bytes)?;
     let columns = lex(rt.alloc(), &scanner)?;
-    let tokens = Tokens(columns.read(scanner.script()));
+    let tokens = Tokens(columns.read());
     rt.println(tokens).map_err(Trouble::Output)
 }
 

@@ -6,7 +6,6 @@ use converter::single_token;
 use input::{Input, to_input};
 use lexed_str::LexedStr;
 use owned_columns::OwnedColumns;
-use raw::RawSource;
 use std::alloc::Global;
 use syntax_kind::Edition;
 use tape::Tape;
@@ -39,7 +38,7 @@ fn answer_columns(
     output: &mut String,
 ) -> Result<(), Failure> {
     let columns = OwnedColumns::lex(heap, tape, Edition::try_from(edition)?)?;
-    let text = ColumnsText(columns.read(tape.script()));
+    let text = ColumnsText(columns.read());
     write!(output, "{text}")?;
     Ok(())
 }
@@ -51,7 +50,7 @@ fn answer_input(
     output: &mut String,
 ) -> Result<(), Failure> {
     let columns = OwnedColumns::lex(heap, tape, Edition::try_from(edition)?)?;
-    let lexed = columns.read(tape.script());
+    let lexed = columns.read();
     write_input(heap, &lexed, edition, output)
 }
 
