@@ -1,4 +1,4 @@
-use Rattle.std.proofs.Common.{sym, ap, ◌∙◌, subst}
+use Rattle.std.proofs.Common.{◌≡◌, sym, ◌∙◌, subst, rules}
 use Rattle.frontmatter.specs.Parsed.{parsed}
 use Rattle.frontmatter.specs.Reads.{Reads}
 use Rattle.frontmatter.proofs.Right.{sound, only}
@@ -8,7 +8,7 @@ use Rattle.frontmatter.proofs.source.ScriptSource.of_script.Goals as goal
 pub returns : goal.returns
 returns c =
     let s = c.args.script.now.bytes.now in
-    let value = c.read_script.ensures ∙ ap parsed c.bytes.ensures in
+    let value : c.read_script.result ≡ parsed s = search rules in
     let reads = subst (Reads s) (sym value) (sound s) in
     record {
       value = value;
