@@ -152,14 +152,7 @@ fn only_the_first_fault_of_a_character(rt: HostRuntime) -> Result<(), Fail> {
         EscapeError::InvalidEscape,
     ];
     let silent = Tape::new(b"'ab'", &marks, &faults, 0)?;
-    check_lexed(
-        &rt,
-        &silent,
-        3,
-        &[kinds::CHAR, kinds::EOF],
-        &[0, 4],
-        None,
-    )?;
+    check_lexed(&rt, &silent, 3, &[kinds::CHAR, kinds::EOF], &[0, 4], None)?;
     match Tape::new(b"'ab'", &marks, &faults[1..], 0) {
         Err(why) => {
             assert_eq!(rt; why.value(), Some(0));

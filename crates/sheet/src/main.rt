@@ -41,9 +41,7 @@ fn print_text(rt: &HostRuntime, text: impl Display + Drop) -> Result<(), Trouble
 // The same lines as in `print_tokens`: a crate for them would be longer than they are, and the error is the program's own.
 fn read_input(rt: &HostRuntime) -> Result<Vec<u8>, Trouble> {
     let mut bytes = Vec::new(rt.alloc());
-    rt.stdin()
-        .read_to_end(&mut bytes)
-        .map_err(Trouble::Input)?;
+    rt.stdin().read_to_end(&mut bytes).map_err(Trouble::Input)?;
     Ok(bytes)
 }
 

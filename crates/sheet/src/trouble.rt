@@ -31,10 +31,7 @@ impl fmt::Display for Trouble {
     fn fmt<W: fmt::Write>(&self, f: &mut fmt::Formatter<W>) -> fmt::Result {
         match self {
             Trouble::Usage(mistake) => {
-                write!(
-                    f,
-                    "sheet: {mistake}; 'sheet --help' says what there is\n"
-                )
+                write!(f, "sheet: {mistake}; 'sheet --help' says what there is\n")
             }
             Trouble::Arguments(why) => write!(f, "sheet: cannot read the arguments: {why}\n"),
             Trouble::File(path, why) => write!(f, "sheet: cannot read {path}: {why}\n"),
