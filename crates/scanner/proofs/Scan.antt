@@ -1,6 +1,7 @@
 -- The scan for the end of a block comment, by what is left to read. Assumes nothing.
-use Rattle.std.proofs.Common.{◌≡◌, ℕ, zero, suc, ◌+◌, ◌-◌, ◌<◌, ◌≤◌, true, false, eqb, ◌≢◌, List, [], ◌∷◌, length, drop, Some, None, sym, refl, ap, ◌∙◌, ap₂, subst, arith}
-use Rattle.std.proofs.lemmas.Bool.{and_parts, or_from, eqb-true}
+use Rattle.std.proofs.Common.{◌≡◌, ℕ, zero, suc, ◌+◌, ◌-◌, ◌<◌, ◌≤◌, true, false, eqb, ◌≢◌, List, [], ◌∷◌, length, get_or, take, drop, Some, None, sym, refl, ap, ◌∙◌, ap₂, subst, ⊎_elim, arith}
+use Rattle.std.proofs.lemmas.List.{take_rest, drop-drop, get_or-drop}
+use Rattle.std.proofs.lemmas.Bool.{and_parts, and_from, or_from, eqb-true, eq-eqb, cases_Bool}
 use Rattle.scanner.specs.Grammar.{slash, star, begins}
 use Rattle.scanner.specs.Comments.{further, closing}
 use Rattle.scanner.proofs.Steps.{plus, plus_some, plus_none, plus_plus, single_step}
@@ -18,6 +19,28 @@ closes_now xs e = begun star slash xs (omega arith) (omega arith) e
 
 pub opens_now : (xs : List ℕ) → begins slash star xs ≡ true → xs ≡ slash ∷ star ∷ drop 2 xs
 opens_now xs e = begun slash star xs (omega arith) (omega arith) e
+
+-- what is left behind two bytes, one after the other
+abbrev pub behind : List ℕ → List ℕ
+behind xs = take (length xs - 1) (drop 1 xs)
+
+pub two_left : (xs : List ℕ) → behind (behind xs) ≡ drop 2 xs
+two_left xs = take_rest (behind xs) 1 ∙ ap (drop 1) (take_rest xs 1) ∙ drop-drop 1 1 xs
+
+next_left : (xs : List ℕ) → get_or (behind xs) 0 0 ≡ get_or xs 1 0
+next_left xs = ap (λ z. get_or z 0 0) (take_rest xs 1) ∙ get_or-drop 1 xs 0 0
+
+pub begins_yes : (a b : ℕ) (xs : List ℕ) → get_or xs 0 0 ≡ a → get_or (behind xs) 0 0 ≡ b → begins a b xs ≡ true
+begins_yes a b xs e f = and_from (eqb (get_or xs 0 0) a) (eqb (get_or xs 1 0) b) (eq-eqb (get_or xs 0 0) a e) (eq-eqb (get_or xs 1 0) b (sym (next_left xs) ∙ f))
+
+pub begins_no : (a b : ℕ) (xs : List ℕ) → (get_or xs 0 0 ≡ a → get_or (behind xs) 0 0 ≡ b → ⊥) → begins a b xs ≡ false
+begins_no a b xs n =
+    ⊎_elim
+    (λ (e : begins a b xs ≡ true).
+    let both = and_parts (eqb (get_or xs 0 0) a) (eqb (get_or xs 1 0) b) e in
+    absurd (n (eqb-true (get_or xs 0 0) a both.0) (next_left xs ∙ eqb-true (get_or xs 1 0) b both.1)))
+    (λ (e : begins a b xs ≡ false). e)
+    (cases_Bool (begins a b xs))
 
 -- the bytes that were read, and what is left: its answer gives the text's
 pub record Scan (text rest : List ℕ) (depth : ℕ) : Type 0 where

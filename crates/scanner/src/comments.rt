@@ -40,21 +40,21 @@ fn closing(text: &[u8]) -> Option<usize>
 {
     let mut rest = text;
     let mut depth: usize = 0;
-    loop {
-        rest = match rest {
-            [] => return None,
-            [b'*', b'/', tail @ ..] if depth == 0 => return Some(text.len() - tail.len()),
-            [b'*', b'/', tail @ ..] => {
+    while let [first, tail @ ..] = rest {
+        rest = match (*first, tail) {
+            (b'*', [b'/', after @ ..]) if depth == 0 => return Some(text.len() - after.len()),
+            (b'*', [b'/', after @ ..]) => {
                 depth -= 1;
-                tail
+                after
             }
-            [b'/', b'*', tail @ ..] => {
+            (b'/', [b'*', after @ ..]) => {
                 depth += 1;
-                tail
+                after
             }
-            [_, tail @ ..] => tail,
+            _ => tail,
         };
     }
+    None
 }
 
 impl Rest<'_> {
