@@ -76,9 +76,6 @@ pub trait RawSource {
     // The length of the shebang line that a raw lexer strips; 0 where there is none.
     ghost shebang: { Self → ℕ };
 
-    // What every source owes, as a proof that it keeps it.
-    ghost laws: { Laws script token faults shebang };
-
     fn script(&self) -> Script<'_>
         ensures { result.bytes.now ≡ script self.now };
 
@@ -91,4 +88,7 @@ pub trait RawSource {
 
     fn shebang_len(&self) -> usize
         ensures { result ≡ shebang self.now };
+
+    // What every source owes: each `impl` gives a proof that it keeps it.
+    ghost laws: { Laws script token faults shebang };
 }

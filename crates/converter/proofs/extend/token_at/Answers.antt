@@ -12,5 +12,5 @@ returns g c =
     let p = c.args.place in
     let value = c.cut.ensures ∙ ap (cut (edition_number c.args.edition)) c.raw_token_at.ensures in
     let P : RawToken → Type 0 = λ t. Stands (m.script s) p t (length (m.faults s p)) in
-    let stands = subst P (sym value) (cut_stands (m.script s) p (m.laws.admitted s) (edition_number c.args.edition) (m.token s p) (length (m.faults s p)) (m.laws.tokens s p c.requires)) in
+    let stands = subst P (sym value) (cut_stands (m.script s) p (g.met.S.RawSource.laws.admitted s) (edition_number c.args.edition) (m.token s p) (length (m.faults s p)) (g.met.S.RawSource.laws.tokens s p c.requires)) in
     record { value = value; some = stands.some; within = stands.within; ends = stands.ends }

@@ -36,7 +36,7 @@ returns g c =
     (subst (λ x. Reached (m.script x) h.so_far) of_head h.reached)
     (subst (λ x. Reached (m.script x) a.so_far) of_all a.reached)
     first head.kept second all.kept all.more end.counts end.kinds end.starts end.errors in
-    let w : Lawful mean = record { admitted = m.laws.admitted s; tokens = m.laws.tokens s; shebangs = m.laws.shebangs s } in
+    let w : Lawful mean = record { admitted = g.met.S.RawSource.laws.admitted s; tokens = g.met.S.RawSource.laws.tokens s; shebangs = g.met.S.RawSource.laws.shebangs s } in
     let is = law mean c.args.edition w _ _ _ _ _ _ c.finish.result x in
     let len = ap length (c.bytes-len.ensures ∙ c.script.ensures) in
     let none =

@@ -17,7 +17,7 @@ write_errors-requires g c =
     let at = c.args.self.now.reached in
     let on = begins_there (m.script s) p c.requires at.boundary_there in
     let P : RawToken → Type 0 = λ t. Stands (m.script s) p t (length (m.faults s p)) in
-    let stands = subst P (sym c.token_at-token.ensures.value) (cut_stands (m.script s) p (m.laws.admitted s) (edition_number c.args.self.now.edition) (m.token s p) (length (m.faults s p)) (m.laws.tokens s p on)) in
+    let stands = subst P (sym c.token_at-token.ensures.value) (cut_stands (m.script s) p (g.met.S.RawSource.laws.admitted s) (edition_number c.args.self.now.edition) (m.token s p) (length (m.faults s p)) (g.met.S.RawSource.laws.tokens s p on)) in
     let few = said_few (m.script s) _ c.args.self.now.kinds.now c.args.self.now.starts.now (m.faults s p) sf _ _ _ stands c.complaint_of.ensures c.settle-complaint.ensures in
     omega (arith, few, ap length c.of.ensures, at.errors_few, ap (λ (x : Progress). x.errors) c.push.ensures.so_far, ap (λ (x : Progress). x.place) c.push.ensures.so_far)
 

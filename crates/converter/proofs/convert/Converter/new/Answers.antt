@@ -6,4 +6,4 @@ pub invariant_of-result-clause-reached : goal.invariant_of-result-clause-reached
 invariant_of-result-clause-reached g c =
     let m = g.S.RawSource in
     let s = c.args.source.now in
-    record { boundary_there = boundary_start (m.script s) (m.laws.admitted s); within = omega arith; tokens_few = omega arith; errors_few = omega arith }
+    record { boundary_there = boundary_start (m.script s) (g.met.S.RawSource.laws.admitted s); within = omega arith; tokens_few = omega arith; errors_few = omega arith }

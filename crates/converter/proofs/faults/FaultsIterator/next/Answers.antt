@@ -19,8 +19,8 @@ overflow_add-self g c =
     let s = c.self.inside in
     let es = m.faults s.source.now s.place in
     let h = rw c.in_ok-fault.was at (given (m.script s.source.now) (m.faults s.source.now) s.place s.number c.fault_at.result c.ok.result c.self.invariant c.fault_at.ensures c.ok.ensures.value) in
-    let few = faults_within (m.script s.source.now) s.place (m.laws.admitted s.source.now) (m.token s.source.now s.place) (length es) (m.laws.tokens s.source.now s.place c.self.invariant) in
-    let small = admitted_short (m.script s.source.now) (m.laws.admitted s.source.now) in
+    let few = faults_within (m.script s.source.now) s.place (g.met.S.RawSource.laws.admitted s.source.now) (m.token s.source.now s.place) (length es) (g.met.S.RawSource.laws.tokens s.source.now s.place c.self.invariant) in
+    let small = admitted_short (m.script s.source.now) (g.met.S.RawSource.laws.admitted s.source.now) in
     omega (arith, ap length h, length-drop s.number es, few, small)
 
 pub returns-clause-steps : goal.returns-clause-steps
