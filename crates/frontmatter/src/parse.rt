@@ -81,7 +81,6 @@ impl Reader<'_> {
         requires { self.old.at ≡ 0 }
         ensures value { result ≡ shebang self.old.bytes.now }
         ensures after { self.new.at ≡ body_start self.old.bytes.now }
-        ensures high { self.new.at ≤ length self.old.bytes.now }
         ensures bytes { self.new.bytes.now ≡ self.old.bytes.now }
     {
         if !is_shebang(self.bytes) {
@@ -94,7 +93,7 @@ impl Reader<'_> {
 
     // The reader stands after the closing line. Past blank lines, dashes open a second fence.
     fn read_content(&mut self, opening: Opening, close: Span) -> Result<ScriptSource, Fault>
-        requires { (self.old.at ≤ length self.old.bytes.now) × (opening.end < length self.old.bytes.now) }
+        requires { opening.end < length self.old.bytes.now }
         ensures { result ≡ content self.old.bytes.now opening close self.old.at }
     {
         let content = Span {
@@ -126,7 +125,7 @@ impl Reader<'_> {
 
     // The reader stands after a closing fence with as many dashes as the opening one.
     fn read_close_line(&mut self, opening: Opening, close: Span) -> Result<ScriptSource, Fault>
-        requires { (self.old.at ≡ close.end) × ((close.end ≤ length self.old.bytes.now) × (opening.end < length self.old.bytes.now)) }
+        requires { (self.old.at ≡ close.end) × (opening.end < length self.old.bytes.now) }
         ensures { result ≡ closed self.old.bytes.now opening close }
     {
         let extra = self.dashes();
@@ -142,7 +141,7 @@ impl Reader<'_> {
 
     // The reader stands after an opening fence of three dashes or more.
     fn read_fenced(&mut self, shebang: Option<Span>, fence: Span) -> Result<ScriptSource, Fault>
-        requires { (self.old.at ≡ fence.end) × ((fence.start ≤ fence.end) × (fence.end ≤ length self.old.bytes.now)) }
+        requires { (self.old.at ≡ fence.end) × (fence.start ≤ fence.end) }
         ensures { result ≡ opened self.old.bytes.now shebang fence }
     {
         let bytes = self.bytes;
@@ -178,7 +177,7 @@ impl Reader<'_> {
         body: usize,
         fence: Span,
     ) -> Result<ScriptSource, Fault>
-        requires { (self.old.at ≡ fence.end) × ((fence.start ≤ fence.end) × (fence.end ≤ length self.old.bytes.now)) }
+        requires { (self.old.at ≡ fence.end) × (fence.start ≤ fence.end) }
         ensures { result ≡ opening self.old.bytes.now shebang body fence }
     {
         match fence.len() {

@@ -7,11 +7,12 @@ use crate::find::{dash_end, find_back};
 use crate::source::Span;
 use script::white_end;
 
-// The bytes of a script, and the place up to which they have been read.
+// The bytes of a script, and the place within them up to which they have been read.
 #[derive(Drop)]
 pub(crate) struct Reader<'a> {
     pub bytes: &'a [u8],
     pub at: usize,
+    ghost within: { at ≤ length bytes.now },
 }
 
 // The LF before a closing fence, and how many dashes were asked for there.
@@ -21,7 +22,7 @@ pub(crate) struct Close {
     pub dashes: usize,
 }
 
-// Holds the reader's place during a trial, and puts it back when the trial ends.
+// Holds the reader's place during a trial, and puts it back when the trial ends: so it is within the script again.
 struct Trial<'r> {
     at: &'r mut usize,
     began: usize,
@@ -39,11 +40,9 @@ impl Drop for Trial<'_> {
 impl Reader<'_> {
     // Reads the dashes at the place.
     pub(crate) fn dashes(&mut self) -> Span
-        requires { self.old.at ≤ length self.old.bytes.now }
         ensures start { result.start ≡ self.old.at }
         ensures end { result.end ≡ dash_end self.old.bytes.now self.old.at }
         ensures low { result.start ≤ result.end }
-        ensures high { result.end ≤ length self.old.bytes.now }
         ensures after { self.new.at ≡ result.end }
         ensures bytes { self.new.bytes.now ≡ self.old.bytes.now }
     {
@@ -57,10 +56,8 @@ impl Reader<'_> {
 
     // Goes past the lines at the place that hold only white space.
     pub(crate) fn skip_blank_lines(&mut self)
-        requires { self.old.at ≤ length self.old.bytes.now }
         ensures after { self.new.at ≡ blank_end self.old.bytes.now self.old.at }
         ensures low { self.old.at ≤ self.new.at }
-        ensures high { self.new.at ≤ length self.old.bytes.now }
         ensures bytes { self.new.bytes.now ≡ self.old.bytes.now }
     {
         let end = white_end(self.bytes, self.at);
@@ -97,7 +94,6 @@ impl Reader<'_> {
 
     // The closing fence: with as many dashes, or else with the most dashes that any line from the place on begins with.
     pub(crate) fn find_close(&mut self, dashes: usize) -> Option<Close>
-        requires { self.old.at ≤ length self.old.bytes.now }
         ensures value { result ≡ close_of self.old.bytes.now self.old.at dashes }
         ensures within { IfSome result (λ c. c.at + 1 + c.dashes ≤ length self.old.bytes.now) }
         ensures after { self.new.at ≡ self.old.at }

@@ -11,7 +11,7 @@ returns-in-Some c =
     let found = found_then was.bytes.now now.bytes.now was.at now.at c.loop-n.n c.args.dashes inv.0 inv.1 inv.2 c.loop-n-test.true c.in-Some.at trial.value in
     record {
       value = found;
-      within = close_within was.bytes.now was.at c.args.dashes (record { at = c.in-Some.at; dashes = c.loop-n.n }) c.requires found;
+      within = close_within was.bytes.now was.at c.args.dashes (record { at = c.in-Some.at; dashes = c.loop-n.n }) was.within found;
       after = trial.after ∙ inv.0;
       bytes = trial.bytes ∙ inv.1;
     }
