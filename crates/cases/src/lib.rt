@@ -32,4 +32,6 @@ mod kind_tests;
 #[cfg(test)]
 mod script_tests;
 #[cfg(test)]
+mod shared_tests;
+#[cfg(test)]
 mod token_tests;
