@@ -12,3 +12,4 @@ pub mod Refusals
 pub mod Outcome
 pub mod Single
 pub mod Lexes
+pub mod Loans

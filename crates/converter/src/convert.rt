@@ -5,7 +5,7 @@ ghost use Rattle.converter.specs.Codes.{settled};
 ghost use Rattle.converter.specs.Columns.{held, put, progress, up_to, Reached, Room, Kept, EndsPast};
 ghost use Rattle.converter.specs.Hints.{hint};
 ghost use Rattle.converter.specs.Lexing.{lex_error, add_up_to, extend, extend_all, head_of};
-ghost use Rattle.converter.specs.Meaning.{meaning};
+ghost use Rattle.converter.specs.Meaning.{means};
 
 use crate::complaint::{Complaint, complaint_of, unknown_prefix};
 use crate::extend::token_at;
@@ -33,6 +33,9 @@ pub(crate) struct Converter<'a, S: RawSource> {
 }
 
 impl<'a, S: RawSource> Converter<'a, S> {
+    // Not above: the file names the struct, whose ghost fields read the lines there.
+    ghost use Rattle.converter.specs.Loans.{Lent, StillLent};
+
     pub(crate) fn new(
         source: &'a S,
         edition: Edition,
@@ -41,7 +44,7 @@ impl<'a, S: RawSource> Converter<'a, S> {
         errors: &'a mut [LexError],
     ) -> Converter<'a, S>
         requires { Room (length (S.RawSource.script source.now)) kinds.old starts.old errors.old }
-        ensures same { (result.source.now ≡ source.now) × (result.edition ≡ edition) × (result.kinds.ghost_name ≡ kinds.entry.ghost_name) × (result.starts.ghost_name ≡ starts.entry.ghost_name) × (result.errors.ghost_name ≡ errors.entry.ghost_name) }
+        ensures same { Lent source.now edition kinds.entry.ghost_name starts.entry.ghost_name errors.entry.ghost_name result }
         ensures columns { (result.kinds.now ≡ kinds.old) × (result.starts.now ≡ starts.old) × (result.errors.now ≡ errors.old) }
         ensures start { result.so_far ≡ progress 0 0 0 }
     {
@@ -62,7 +65,7 @@ impl<'a, S: RawSource> Converter<'a, S> {
     // One token more, up to `end`.
     fn push(&mut self, kind: u16, end: usize)
         requires { EndsPast (S.RawSource.script self.old.source.now) self.old.so_far.place (Some end) }
-        ensures same { (self.new.source.now ≡ self.old.source.now) × (self.new.edition ≡ self.old.edition) × (self.new.kinds.ghost_name ≡ self.old.kinds.ghost_name) × (self.new.starts.ghost_name ≡ self.old.starts.ghost_name) × (self.new.errors.ghost_name ≡ self.old.errors.ghost_name) }
+        ensures same { StillLent self.old self.new }
         ensures kinds { self.new.kinds.now ≡ slice_set self.old.kinds.now self.old.so_far.tokens kind }
         ensures starts { self.new.starts.now ≡ slice_set self.old.starts.now self.old.so_far.tokens self.old.so_far.place }
         ensures errors { self.new.errors.now ≡ self.old.errors.now }
@@ -77,7 +80,7 @@ impl<'a, S: RawSource> Converter<'a, S> {
     // Writes what is said of the token.
     fn write_errors(&mut self, token: u32, said: Said<'_, S>)
         requires { self.old.so_far.errors + length said ≤ self.old.so_far.place }
-        ensures same { (self.new.source.now ≡ self.old.source.now) × (self.new.edition ≡ self.old.edition) × (self.new.kinds.ghost_name ≡ self.old.kinds.ghost_name) × (self.new.starts.ghost_name ≡ self.old.starts.ghost_name) × (self.new.errors.ghost_name ≡ self.old.errors.ghost_name) }
+        ensures same { StillLent self.old self.new }
         ensures kinds { self.new.kinds.now ≡ self.old.kinds.now }
         ensures starts { self.new.starts.now ≡ self.old.starts.now }
         ensures errors { self.new.errors.now ≡ put self.old.so_far.errors (map (lex_error token) said.entry) self.old.errors.now }
@@ -114,8 +117,8 @@ impl<'a, S: RawSource> Converter<'a, S> {
     // One token of the source more.
     fn extend(&mut self)
         requires { self.old.so_far.place < length (S.RawSource.script self.old.source.now) }
-        ensures same { (self.new.source.now ≡ self.old.source.now) × (self.new.edition ≡ self.old.edition) × (self.new.kinds.ghost_name ≡ self.old.kinds.ghost_name) × (self.new.starts.ghost_name ≡ self.old.starts.ghost_name) × (self.new.errors.ghost_name ≡ self.old.errors.ghost_name) }
-        ensures held { held self.new.kinds.now self.new.starts.now self.new.errors.now self.new.so_far ≡ extend (meaning (S.RawSource.script self.old.source.now) (S.RawSource.token self.old.source.now) (S.RawSource.faults self.old.source.now) (S.RawSource.shebang self.old.source.now)) (edition_number self.old.edition) (held self.old.kinds.now self.old.starts.now self.old.errors.now self.old.so_far) }
+        ensures same { StillLent self.old self.new }
+        ensures held { held self.new.kinds.now self.new.starts.now self.new.errors.now self.new.so_far ≡ extend (means S.RawSource self.old.source.now) (edition_number self.old.edition) (held self.old.kinds.now self.old.starts.now self.old.errors.now self.old.so_far) }
         ensures kept { Kept self.old.kinds.now self.old.starts.now self.new.kinds.now self.new.starts.now self.old.errors.now self.new.errors.now self.new.so_far }
         ensures more { (self.new.so_far.tokens ≡ self.old.so_far.tokens + 1) × (self.old.so_far.errors ≤ self.new.so_far.errors) × (self.old.so_far.place < self.new.so_far.place) }
     {
@@ -133,9 +136,9 @@ impl<'a, S: RawSource> Converter<'a, S> {
 
     // The tokens of the source, up to the script's end.
     pub(crate) fn extend_all(&mut self)
-        ensures same { (self.new.source.now ≡ self.old.source.now) × (self.new.edition ≡ self.old.edition) × (self.new.kinds.ghost_name ≡ self.old.kinds.ghost_name) × (self.new.starts.ghost_name ≡ self.old.starts.ghost_name) × (self.new.errors.ghost_name ≡ self.old.errors.ghost_name) }
+        ensures same { StillLent self.old self.new }
         ensures end { self.new.so_far.place ≡ length (S.RawSource.script self.old.source.now) }
-        ensures held { held self.new.kinds.now self.new.starts.now self.new.errors.now self.new.so_far ≡ extend_all (meaning (S.RawSource.script self.old.source.now) (S.RawSource.token self.old.source.now) (S.RawSource.faults self.old.source.now) (S.RawSource.shebang self.old.source.now)) (edition_number self.old.edition) (length (S.RawSource.script self.old.source.now) - self.old.so_far.tokens) (held self.old.kinds.now self.old.starts.now self.old.errors.now self.old.so_far) }
+        ensures held { held self.new.kinds.now self.new.starts.now self.new.errors.now self.new.so_far ≡ extend_all (means S.RawSource self.old.source.now) (edition_number self.old.edition) (length (S.RawSource.script self.old.source.now) - self.old.so_far.tokens) (held self.old.kinds.now self.old.starts.now self.old.errors.now self.old.so_far) }
         ensures kept { Kept self.old.kinds.now self.old.starts.now self.new.kinds.now self.new.starts.now self.old.errors.now self.new.errors.now self.new.so_far }
         ensures more { (self.old.so_far.tokens ≤ self.new.so_far.tokens) × (self.old.so_far.errors ≤ self.new.so_far.errors) }
     {
@@ -148,7 +151,7 @@ impl<'a, S: RawSource> Converter<'a, S> {
     // One token of the head more, if it is there.
     fn push_up_to(&mut self, kind: u16, end: Option<usize>)
         requires { EndsPast (S.RawSource.script self.old.source.now) self.old.so_far.place end × (self.old.so_far.errors ≡ 0) }
-        ensures same { (self.new.source.now ≡ self.old.source.now) × (self.new.edition ≡ self.old.edition) × (self.new.kinds.ghost_name ≡ self.old.kinds.ghost_name) × (self.new.starts.ghost_name ≡ self.old.starts.ghost_name) × (self.new.errors.ghost_name ≡ self.old.errors.ghost_name) }
+        ensures same { StillLent self.old self.new }
         ensures value { self.new.so_far ≡ up_to self.old.so_far.tokens self.old.so_far.place end }
         ensures held { held self.new.kinds.now self.new.starts.now self.new.errors.now self.new.so_far ≡ add_up_to kind end (held self.old.kinds.now self.old.starts.now self.old.errors.now self.old.so_far) }
         ensures kept { Kept self.old.kinds.now self.old.starts.now self.new.kinds.now self.new.starts.now self.old.errors.now self.new.errors.now self.new.so_far }
@@ -161,8 +164,8 @@ impl<'a, S: RawSource> Converter<'a, S> {
     // The head's tokens: the shebang line and the frontmatter.
     pub(crate) fn extend_head(&mut self)
         requires { self.old.so_far ≡ progress 0 0 0 }
-        ensures same { (self.new.source.now ≡ self.old.source.now) × (self.new.edition ≡ self.old.edition) × (self.new.kinds.ghost_name ≡ self.old.kinds.ghost_name) × (self.new.starts.ghost_name ≡ self.old.starts.ghost_name) × (self.new.errors.ghost_name ≡ self.old.errors.ghost_name) }
-        ensures held { held self.new.kinds.now self.new.starts.now self.new.errors.now self.new.so_far ≡ head_of (meaning (S.RawSource.script self.old.source.now) (S.RawSource.token self.old.source.now) (S.RawSource.faults self.old.source.now) (S.RawSource.shebang self.old.source.now)) }
+        ensures same { StillLent self.old self.new }
+        ensures held { held self.new.kinds.now self.new.starts.now self.new.errors.now self.new.so_far ≡ head_of (means S.RawSource self.old.source.now) }
         ensures kept { Kept self.old.kinds.now self.old.starts.now self.new.kinds.now self.new.starts.now self.old.errors.now self.new.errors.now self.new.so_far }
     {
         let head = head_of(self.source);
@@ -173,7 +176,7 @@ impl<'a, S: RawSource> Converter<'a, S> {
     // Writes the end's entry, and counts what was written.
     pub(crate) fn finish(&mut self) -> Counts
         requires { self.old.so_far.place ≡ length (S.RawSource.script self.old.source.now) }
-        ensures same { (self.new.source.now ≡ self.old.source.now) × (self.new.edition ≡ self.old.edition) × (self.new.kinds.ghost_name ≡ self.old.kinds.ghost_name) × (self.new.starts.ghost_name ≡ self.old.starts.ghost_name) × (self.new.errors.ghost_name ≡ self.old.errors.ghost_name) }
+        ensures same { StillLent self.old self.new }
         ensures counts { (result.tokens ≡ self.old.so_far.tokens) × (result.errors ≡ self.old.so_far.errors) }
         ensures kinds { self.new.kinds.now ≡ slice_set self.old.kinds.now self.old.so_far.tokens EOF }
         ensures starts { self.new.starts.now ≡ slice_set self.old.starts.now self.old.so_far.tokens self.old.so_far.place }

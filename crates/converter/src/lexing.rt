@@ -4,7 +4,7 @@ ghost use Rattle.syntax_kind.specs.Editions.{edition_number};
 ghost use Rattle.converter.specs.Columns.{over};
 ghost use Rattle.converter.specs.Lexes.{Keeps, Only, Readable};
 ghost use Rattle.converter.specs.Lexing.{lexed};
-ghost use Rattle.converter.specs.Meaning.{meaning};
+ghost use Rattle.converter.specs.Meaning.{means};
 ghost use Rattle.converter.specs.Outcome.{outcome, written, kinds_of, starts_of};
 ghost use Rattle.converter.specs.Refusals.{refusal};
 
@@ -29,13 +29,13 @@ pub fn lex<S: RawSource>(
     starts: &mut [u32],
     errors: &mut [LexError],
 ) -> Result<Counts, Refusal>
-    ensures answer { result ≡ outcome (refusal edition (length (S.RawSource.script source.now)) (length kinds.old) (length starts.old) (length errors.old)) (lexed (meaning (S.RawSource.script source.now) (S.RawSource.token source.now) (S.RawSource.faults source.now) (S.RawSource.shebang source.now)) edition) }
-    ensures kinds { kinds.new ≡ written (refusal edition (length (S.RawSource.script source.now)) (length kinds.old) (length starts.old) (length errors.old)) (kinds_of (lexed (meaning (S.RawSource.script source.now) (S.RawSource.token source.now) (S.RawSource.faults source.now) (S.RawSource.shebang source.now)) edition)) kinds.old }
-    ensures starts { starts.new ≡ written (refusal edition (length (S.RawSource.script source.now)) (length kinds.old) (length starts.old) (length errors.old)) (starts_of (lexed (meaning (S.RawSource.script source.now) (S.RawSource.token source.now) (S.RawSource.faults source.now) (S.RawSource.shebang source.now)) edition)) starts.old }
-    ensures errors { errors.new ≡ written (refusal edition (length (S.RawSource.script source.now)) (length kinds.old) (length starts.old) (length errors.old)) (lexed (meaning (S.RawSource.script source.now) (S.RawSource.token source.now) (S.RawSource.faults source.now) (S.RawSource.shebang source.now)) edition).errors errors.old }
-    ensures law { Keeps (meaning (S.RawSource.script source.now) (S.RawSource.token source.now) (S.RawSource.faults source.now) (S.RawSource.shebang source.now)) edition result kinds.new starts.new errors.new }
-    ensures only { Only (meaning (S.RawSource.script source.now) (S.RawSource.token source.now) (S.RawSource.faults source.now) (S.RawSource.shebang source.now)) edition result kinds.new starts.new errors.new }
-    ensures readable { Readable (meaning (S.RawSource.script source.now) (S.RawSource.token source.now) (S.RawSource.faults source.now) (S.RawSource.shebang source.now)) result kinds.new starts.new errors.new }
+    ensures answer { result ≡ outcome (refusal edition (length (S.RawSource.script source.now)) (length kinds.old) (length starts.old) (length errors.old)) (lexed (means S.RawSource source.now) edition) }
+    ensures kinds { kinds.new ≡ written (refusal edition (length (S.RawSource.script source.now)) (length kinds.old) (length starts.old) (length errors.old)) (kinds_of (lexed (means S.RawSource source.now) edition)) kinds.old }
+    ensures starts { starts.new ≡ written (refusal edition (length (S.RawSource.script source.now)) (length kinds.old) (length starts.old) (length errors.old)) (starts_of (lexed (means S.RawSource source.now) edition)) starts.old }
+    ensures errors { errors.new ≡ written (refusal edition (length (S.RawSource.script source.now)) (length kinds.old) (length starts.old) (length errors.old)) (lexed (means S.RawSource source.now) edition).errors errors.old }
+    ensures law { Keeps (means S.RawSource source.now) edition result kinds.new starts.new errors.new }
+    ensures only { Only (means S.RawSource source.now) edition result kinds.new starts.new errors.new }
+    ensures readable { Readable (means S.RawSource source.now) result kinds.new starts.new errors.new }
 {
     let edition = Edition::try_from(edition)?;
     // Each byte may need a token and an error, and the end an entry.

@@ -2,7 +2,7 @@
 ghost use Rattle.std.specs.Prelude.{◌≡◌, ◌<◌, ◌≤◌, true, MatchResult};
 ghost use Rattle.raw.specs.Answers.{begins};
 ghost use Rattle.syntax_kind.specs.Editions.{edition_number};
-ghost use Rattle.converter.specs.Meaning.{meaning};
+ghost use Rattle.converter.specs.Meaning.{means};
 ghost use Rattle.converter.specs.Single.{single, single_answer, whole, Single};
 
 use crate::complaint::{Complaint, complaint_of, unknown_prefix};
@@ -19,14 +19,14 @@ pub fn single_token<S: RawSource>(
     source: &S,
     edition: u8,
 ) -> Result<Option<(u16, Option<u16>)>, Refusal>
-    ensures value { result ≡ single_answer (meaning (S.RawSource.script source.now) (S.RawSource.token source.now) (S.RawSource.faults source.now) (S.RawSource.shebang source.now)) edition }
-    ensures alone { MatchResult result (λ answer. Single (meaning (S.RawSource.script source.now) (S.RawSource.token source.now) (S.RawSource.faults source.now) (S.RawSource.shebang source.now)) edition answer) (λ _. 3 < edition) }
+    ensures value { result ≡ single_answer (means S.RawSource source.now) edition }
+    ensures alone { MatchResult result (λ answer. Single (means S.RawSource source.now) edition answer) (λ _. 3 < edition) }
 {
     Ok(single(source, Edition::try_from(edition)?))
 }
 
 fn single<S: RawSource>(source: &S, edition: Edition) -> Option<(u16, Option<u16>)>
-    ensures { result ≡ single (meaning (S.RawSource.script source.now) (S.RawSource.token source.now) (S.RawSource.faults source.now) (S.RawSource.shebang source.now)) (edition_number edition) }
+    ensures { result ≡ single (means S.RawSource source.now) (edition_number edition) }
 {
     if !is_whole(source, edition) {
         return None;
@@ -49,7 +49,7 @@ fn single<S: RawSource>(source: &S, edition: Edition) -> Option<(u16, Option<u16
 
 // Whether the raw token at the script's start is the whole script, and the edition cuts nothing off.
 fn is_whole<S: RawSource>(source: &S, edition: Edition) -> bool
-    ensures value { result ≡ whole (meaning (S.RawSource.script source.now) (S.RawSource.token source.now) (S.RawSource.faults source.now) (S.RawSource.shebang source.now)) (edition_number edition) }
+    ensures value { result ≡ whole (means S.RawSource source.now) (edition_number edition) }
     ensures begins { result ≡ true → begins (S.RawSource.script source.now) 0 ≡ true }
 {
     let script = source.script();

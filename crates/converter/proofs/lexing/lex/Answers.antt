@@ -3,7 +3,7 @@ use Rattle.syntax_kind.specs.Editions.{edition_number}
 use Rattle.converter.specs.Columns.{over, held, Reached, Room}
 use Rattle.converter.specs.Lexes.{Keeps, Only, Readable}
 use Rattle.converter.specs.Lexing.{head_of, extend_all}
-use Rattle.converter.specs.Meaning.{meaning}
+use Rattle.converter.specs.Meaning.{means}
 use Rattle.converter.proofs.Converted.{converted, law, only, known_edition, none_refused, answered, written_at, at_end}
 use Rattle.converter.proofs.Ends.{Lawful}
 use Rattle.converter.proofs.Readable.{readable}
@@ -23,12 +23,12 @@ returns g c =
     let of_head = head.same.0 ∙ start.same.0 in
     let of_all = all.same.0 ∙ of_head in
     let edition = ap edition_number (head.same.1 ∙ start.same.1) ∙ c.in_ok-edition.ensures in
-    let mean = meaning (m.script s) (m.token s) (m.faults s) (m.shebang s) in
+    let mean = means m s in
     let left = length (m.script s) - h.so_far.tokens in
     let so_far = held h.kinds.now h.starts.now h.errors.now h.so_far in
-    let first = head.held ∙ ap (λ x. head_of (meaning (m.script x) (m.token x) (m.faults x) (m.shebang x))) start.same.0 in
+    let first = head.held ∙ ap (λ x. head_of (means m x)) start.same.0 in
     let second =
-    all.held ∙ ap (λ x. extend_all (meaning (m.script x) (m.token x) (m.faults x) (m.shebang x)) (edition_number h.edition) (length (m.script x) - h.so_far.tokens) so_far) of_head
+    all.held ∙ ap (λ x. extend_all (means m x) (edition_number h.edition) (length (m.script x) - h.so_far.tokens) so_far) of_head
     ∙ ap (λ x. extend_all mean x left so_far) edition in
     let x = converted mean c.args.edition _ _ _ _ _ _ _ _ _ _ _ f.errors.now _ _ c.finish.result
     (subst (λ x. Room (length (m.script x)) h.kinds.now h.starts.now h.errors.now) of_head h.room)

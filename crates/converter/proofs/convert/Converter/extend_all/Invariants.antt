@@ -1,6 +1,7 @@
-use Rattle.std.proofs.Common.{◌≡◌, ◌-◌, length}
+use Rattle.std.proofs.Common.{◌-◌, length}
 use Rattle.syntax_kind.specs.Editions.{edition_number}
-use Rattle.converter.specs.Meaning.{meaning}
+use Rattle.converter.specs.Loans.{StillLent}
+use Rattle.converter.specs.Meaning.{means}
 use Rattle.converter.proofs.Running.{Sofar}
 use Rattle.converter.proofs.convert.Converter.extend_all.Given as goal
 
@@ -8,12 +9,8 @@ abbrev pub invariant-loop-self : goal.invariant-loop-self
 invariant-loop-self g l =
     let m = g.S.RawSource in
     let s = l.initial.self.source.now in
-    (l.self.source.now ≡ s)
-    × (l.self.edition ≡ l.initial.self.edition)
-    × (l.self.kinds.ghost_name ≡ l.initial.self.kinds.ghost_name)
-    × (l.self.starts.ghost_name ≡ l.initial.self.starts.ghost_name)
-    × (l.self.errors.ghost_name ≡ l.initial.self.errors.ghost_name)
-    × Sofar (meaning (m.script s) (m.token s) (m.faults s) (m.shebang s)) (edition_number l.initial.self.edition) l.initial.self.kinds.now l.initial.self.starts.now l.initial.self.errors.now l.initial.self.so_far l.self.kinds.now l.self.starts.now l.self.errors.now l.self.so_far
+    StillLent l.initial.self l.self
+    × Sofar (means m s) (edition_number l.initial.self.edition) l.initial.self.kinds.now l.initial.self.starts.now l.initial.self.errors.now l.initial.self.so_far l.self.kinds.now l.self.starts.now l.self.errors.now l.self.so_far
 
 abbrev pub decreases-loop-self : goal.decreases-loop-self
 decreases-loop-self g l = length (g.S.RawSource.script l.self.source.now) - l.self.so_far.place

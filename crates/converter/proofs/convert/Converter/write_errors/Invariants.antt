@@ -1,5 +1,6 @@
 use Rattle.std.proofs.Common.{◌≡◌, map}
 use Rattle.converter.specs.Lexing.{lex_error}
+use Rattle.converter.specs.Loans.{StillLent}
 use Rattle.converter.proofs.Writing.{Writing}
 use Rattle.converter.proofs.convert.Converter.write_errors.Given as goal
 
@@ -7,11 +8,7 @@ abbrev pub invariant-loop-message : goal.invariant-loop-message
 invariant-loop-message g l =
     (goal.iterator-loop-message g).can_next l.message-iterator
     × (goal.iterator-loop-message g).is_finite l.message-iterator
-    × (l.self.source.now ≡ l.initial.self.source.now)
-    × (l.self.edition ≡ l.initial.self.edition)
-    × (l.self.kinds.ghost_name ≡ l.initial.self.kinds.ghost_name)
-    × (l.self.starts.ghost_name ≡ l.initial.self.starts.ghost_name)
-    × (l.self.errors.ghost_name ≡ l.initial.self.errors.ghost_name)
+    × StillLent l.initial.self l.self
     × (l.self.kinds.now ≡ l.initial.self.kinds.now)
     × (l.self.starts.now ≡ l.initial.self.starts.now)
     × (l.self.so_far.tokens ≡ l.initial.self.so_far.tokens)
