@@ -8,6 +8,7 @@ use questions::Refused;
 use shown::{After, Or};
 use std::fmt;
 
+// Other crates' types in this program's own words.
 #[derive(Clone, Copy)]
 struct Parts(ScriptSource);
 

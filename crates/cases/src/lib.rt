@@ -5,7 +5,7 @@ ghost use Rattle.std.specs.Prelude.{◌≡◌};
 ghost use Rattle.cases.specs.Examples.{Examples};
 ghost use Rattle.cases.specs.TokenExamples.{TokenExamples};
 
-// The number of examples that the definitions give by evaluation.
+// The number of examples that the definitions give by evaluation. The theorem is on its contract, so it is no constant.
 pub fn evaluated() -> u8
     ensures count { result ≡ 5 }
     ensures examples { Examples }

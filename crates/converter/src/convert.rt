@@ -142,6 +142,7 @@ impl<'a, S: RawSource> Converter<'a, S> {
         ensures kept { Kept self.old.kinds.now self.old.starts.now self.new.kinds.now self.new.starts.now self.old.errors.now self.new.errors.now self.new.so_far }
         ensures more { (self.old.so_far.tokens ≤ self.new.so_far.tokens) × (self.old.so_far.errors ≤ self.new.so_far.errors) }
     {
+        // What goes on is the converter itself, and an iterator over it would have to lend it out at each step.
         let end = self.source.script().bytes().len();
         while self.so_far.place < end {
             self.extend();

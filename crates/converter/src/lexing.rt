@@ -21,7 +21,8 @@ pub struct Counts {
     pub errors: usize,
 }
 
-// Cuts the source's script into tokens, and writes their kinds, starts and errors over the fronts of the columns.
+// Cuts the source's script into tokens, and writes their kinds, starts and errors over the fronts of the columns. The
+// edition is asked by its number, and refused where there is none.
 pub fn lex<S: RawSource>(
     source: &S,
     edition: u8,

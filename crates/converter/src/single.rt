@@ -15,6 +15,7 @@ use raw::RawSource;
 use syntax_kind::Edition;
 
 // The kind of the one token that the script is, with the last error code, if any. Neither shebang nor frontmatter is looked for.
+// Both are numbers, as in the columns, and so is the edition, which is refused where there is none.
 pub fn single_token<S: RawSource>(
     source: &S,
     edition: u8,

@@ -1,4 +1,5 @@
-// Searches over the bytes of a script.
+// Searches over the bytes of a script. They take and give places in it, as the rules do: a slice of its text would have
+// its start to be added back at each use.
 ghost use Rattle.std.specs.Prelude.{◌≡◌, ℕ, ◌≤◌, Bool, length};
 ghost use Rattle.frontmatter.specs.Searches.{first, past_last};
 ghost use Rattle.frontmatter.specs.Lines.{at, line_end, dash_end};

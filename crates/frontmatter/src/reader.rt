@@ -126,6 +126,7 @@ fn closes(bytes: &[u8], place: usize, dashes: usize) -> bool
 fn most_dashes(bytes: &[u8], from: usize) -> usize
     ensures { (k : ℕ) → from ≤ k → k < length bytes.now → at line_feed bytes.now k ≡ true → dash_end bytes.now (k + 1) ≤ k + 1 + result }
 {
+    // The greatest of a chain of places is not known to be above each of them: no proof closed.
     let mut most = 0;
     for place in from..bytes.len() {
         if bytes[place] == b'\n' {

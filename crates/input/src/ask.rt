@@ -16,7 +16,8 @@ impl Input<'_> {
         self.len
     }
 
-    // The kind of an entry; past the last, the end of the input.
+    // The kind of an entry; past the last, the end of the input. The next call is the same over another column, and one
+    // function for both would be no shorter than either.
     pub fn kind(&self, i: usize) -> u16
         ensures { result ≡ kind_or (columns_of self.now).kinds self.now.len i }
     {

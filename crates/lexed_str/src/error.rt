@@ -5,6 +5,7 @@ use records::Keyed;
 #[derive(Clone, Copy, Debug, PartialEq, Eq)]
 pub struct LexError {
     pub token: u32,
+    // A number, since columns of such records are lent.
     pub code: u16,
 }
 

@@ -1,4 +1,5 @@
-// Token columns carry their test: whoever holds them knows that they fit their script.
+// Token columns carry their test: whoever holds them knows that they fit their script. The caller lends them, and
+// nothing here is on the heap.
 ghost use Rattle.std.specs.Prelude.{◌≡◌, true};
 ghost use Rattle.lexed_str.specs.Offering.{accepts};
 

@@ -64,6 +64,7 @@ impl fmt::Display for Tokens<'_> {
         let lexed = self.0;
         let len = lexed.len();
         let mut errors = lexed.errors();
+        // Columns are asked for a token by its number.
         for i in 0..len {
             let line = Line::new(&lexed, i);
             let (own, later) = split_errors(errors, i);

@@ -3,6 +3,7 @@ use std::alloc::AllocError;
 use std::error::Error;
 use std::{fmt, io};
 
+// An `io::Error` has no equality, so it has none.
 #[derive(Debug, Drop)]
 pub enum Trouble {
     Input(io::Error),

@@ -33,7 +33,8 @@ fn block_style(text: &[u8]) -> Option<DocStyle>
     }
 }
 
-// How many bytes stand up to the end of a block comment that was opened before; `None` where it stays open.
+// How many bytes stand up to the end of a block comment that was opened before; `None` where it stays open. A step hangs
+// on two bytes and on the depth, so it is a loop over what is left.
 fn closing(text: &[u8]) -> Option<usize>
     ensures value { result ≡ closing 0 text.now }
     ensures within { IfSome result (λ n. n ≤ length text.now) }

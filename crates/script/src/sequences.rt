@@ -63,7 +63,8 @@ fn white_mark(bytes: &[u8], last: usize) -> usize
     }
 }
 
-// Where the sequences of the table that follow one another from `from` on end.
+// Where the sequences of the table that follow one another from `from` on end. Each step is as long as what was found,
+// and no iterator of the library steps so.
 pub(crate) fn run_end<T: Table>(table: &T, bytes: &[u8], from: usize) -> usize
     ensures { result ≡ run_end (T.rows table.now) bytes.now from }
 {

@@ -5,6 +5,7 @@ ghost use Rattle.sheet.specs.Commands.{is_help, is_option, word_command, command
 use std::error::Error;
 use std::fmt;
 
+// Not compared or shown anywhere, and it holds an allocation.
 #[derive(Drop)]
 pub enum Command {
     Help,

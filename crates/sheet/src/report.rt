@@ -14,7 +14,7 @@ pub struct Report {
     pub found: Result<ScriptSource, Failure>,
 }
 
-// The lines on what was found, on the parts, and on a fault.
+// The lines on what was found, on the parts, and on a fault: other crates' types in this program's own words.
 #[derive(Clone, Copy)]
 struct Found(Result<ScriptSource, Failure>);
 

@@ -5,6 +5,7 @@ use crate::command::Mistake;
 use std::error::Error;
 use std::{fmt, io};
 
+// An `io::Error` has no equality, so it has none.
 #[derive(Debug, Drop)]
 pub enum Trouble {
     Usage(Mistake),

@@ -1,4 +1,4 @@
-// Keywords by their text.
+// Keywords by their text. The calls take an edition by its number, as callers have it, and refuse one that there is not.
 ghost use Rattle.std.specs.Prelude.{◌≡◌, ℕ, Some, None, Ok};
 ghost use Rattle.syntax_kind.specs.Editions.{edition_number};
 ghost use Rattle.syntax_kind.specs.Keywords.{Answer, look_up, strict, contextual, keyword_answer, contextual_answer};

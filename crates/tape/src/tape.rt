@@ -1,4 +1,5 @@
-// A tape carries its test: whoever holds one knows that its marks keep the rules.
+// A tape carries its test: whoever holds one knows that its marks keep the rules. The caller lends its columns, and
+// nothing here is on the heap.
 ghost use Rattle.std.specs.Prelude.{◌≡◌, true};
 ghost use Rattle.tape.specs.Rules.{fits};
 

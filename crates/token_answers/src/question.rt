@@ -5,6 +5,7 @@ use crate::words::{cut, cut_number};
 use questions::decode;
 use std::alloc::Global;
 
+// What a line asks for: it is told apart once, where the question is answered.
 #[derive(Clone, Copy, Debug, PartialEq, Eq)]
 pub enum Asked {
     Columns,
@@ -15,6 +16,7 @@ pub enum Asked {
 #[derive(Drop)]
 pub struct Question {
     pub asked: Asked,
+    // As it was asked: the calls refuse a number that no edition has.
     pub edition: u8,
     pub script: Vec<u8>,
     pub recorded: Recorded,

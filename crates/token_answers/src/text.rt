@@ -75,6 +75,7 @@ impl fmt::Display for InputText<'_, '_> {
         f.write_str("|")?;
         write_row(f, (0..len).map(|i| input.contextual_kind(i)))?;
         f.write_str("|")?;
+        // An input is asked for an entry by its number.
         for i in 0..len {
             let joint = u8::from(matches!(input.is_joint(i), Ok(true)));
             write!(f, "{joint}")?;
