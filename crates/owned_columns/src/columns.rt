@@ -4,7 +4,7 @@ ghost use Rattle.script.specs.Admission.{most};
 ghost use Rattle.syntax_kind.specs.Editions.{edition_number};
 ghost use Rattle.lexed_str.specs.Columns.{Columns};
 ghost use Rattle.converter.specs.Lexes.{Keeps, Readable};
-ghost use Rattle.converter.specs.Meaning.{meaning};
+ghost use Rattle.converter.specs.Meaning.{means};
 ghost use Rattle.owned_columns.specs.Holds.{Holds};
 
 use converter::{Counts, lex};
@@ -31,7 +31,7 @@ impl<'a> OwnedColumns<'a> {
         edition: Edition,
     ) -> Result<OwnedColumns<'a>, AllocError>
         ensures script { IfOk result (λ c. c.script.bytes.now ≡ S.RawSource.script source.now) }
-        ensures holds { IfOk result (λ c. Holds (meaning (S.RawSource.script source.now) (S.RawSource.token source.now) (S.RawSource.faults source.now) (S.RawSource.shebang source.now)) (edition_number edition) c.kinds.items c.starts.items c.errors.items) }
+        ensures holds { IfOk result (λ c. Holds (means S.RawSource source.now) (edition_number edition) c.kinds.items c.starts.items c.errors.items) }
     {
         let script = source.script();
         let len = script.bytes().len();
@@ -84,8 +84,8 @@ fn fill<S: RawSource>(
     errors: &mut [LexError],
 ) -> Counts
     requires { (length (S.RawSource.script source.now) < length kinds.old) × (length (S.RawSource.script source.now) < length starts.old) × (length (S.RawSource.script source.now) ≤ length errors.old) }
-    ensures law { Keeps (meaning (S.RawSource.script source.now) (S.RawSource.token source.now) (S.RawSource.faults source.now) (S.RawSource.shebang source.now)) (edition_number edition) (Ok result) kinds.new starts.new errors.new }
-    ensures fit { Readable (meaning (S.RawSource.script source.now) (S.RawSource.token source.now) (S.RawSource.faults source.now) (S.RawSource.shebang source.now)) (Ok result) kinds.new starts.new errors.new }
+    ensures law { Keeps (means S.RawSource source.now) (edition_number edition) (Ok result) kinds.new starts.new errors.new }
+    ensures fit { Readable (means S.RawSource source.now) (Ok result) kinds.new starts.new errors.new }
 {
     let Ok(counts) = lex(source, edition.number(), kinds, starts, errors) else {
         unreachable()
