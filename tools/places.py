@@ -35,18 +35,23 @@ def functions():
     for path, lines in sources():
         text = "\n".join(lines)
         for found in re.finditer(r"\bfn (\w+)", text):
-            at = text.find("(", found.end())
+            at = found.end()
+            if text[at] == "<":
+                depth = 0
+                while True:
+                    depth += {"<": 1, ">": -1}.get(text[at], 0) if text[at - 1] != "-" else 0
+                    at += 1
+                    if depth == 0:
+                        break
+            at = text.find("(", at)
             depth, end = 0, at
             while True:
                 depth += {"(": 1, ")": -1}.get(text[end], 0)
                 end += 1
                 if depth == 0:
                     break
-            body = text.find("\n{\n", end)
-            stop = re.search(r"[;{]", text[end:])
-            head = text[end:body] if body >= 0 else ""
-            if "fn " in head or body < 0:
-                head = text[end : end + stop.start()] if stop else ""
+            stop = re.compile(r"\n *\{\n|;\n| \{\n").search(text, end)
+            head = text[end : stop.start()] if stop else ""
             line = text.count("\n", 0, found.start()) + 1
             yield path, line, found.group(1), text[at + 1 : end - 1], head
 
