@@ -1,6 +1,9 @@
 // What there is to say of a token.
-ghost use Rattle.std.specs.Prelude.{◌≡◌};
-ghost use Rattle.converter.specs.Codes.{say_if, literal_complaint, complaint_of, settled};
+ghost use Rattle.std.specs.Prelude.{◌≡◌, cond, codes};
+ghost use Rattle.std.specs.Str.{bytes_eq};
+ghost use Rattle.converter.specs.declared.complaint.Complaint.TheVariants.{Says};
+ghost use Rattle.converter.specs.declared.message.Message.TheVariants.{UnknownPrefixNearString, UnknownPrefix};
+ghost use Rattle.converter.specs.Codes.{say_if, literal_complaint, complaint_of};
 
 use crate::message::Message;
 use crate::messages::Mode;
@@ -80,13 +83,18 @@ fn say_if(wrong: bool, message: Message) -> Complaint
     }
 }
 
-// An unknown prefix may follow from a string that is likely unterminated; `builtin` is a prefix that the parser knows.
-pub(crate) fn unknown_prefix(text: &[u8], near_string: bool) -> Complaint
-    ensures { result ≡ settled near_string text.now Complaint.Prefix }
+// `builtin` is a prefix that the parser knows.
+pub(crate) fn is_builtin(text: &[u8]) -> bool
+    ensures { result ≡ bytes_eq text.now (codes "builtin") }
 {
-    if text == b"builtin".as_slice() {
-        Complaint::Silent
-    } else if near_string {
+    text == b"builtin".as_slice()
+}
+
+// Another prefix may follow from a string that is likely unterminated.
+pub(crate) fn unknown_prefix(near_string: bool) -> Complaint
+    ensures { result ≡ cond near_string (Says UnknownPrefixNearString) (Says UnknownPrefix) }
+{
+    if near_string {
         Complaint::Says(Message::UnknownPrefixNearString)
     } else {
         Complaint::Says(Message::UnknownPrefix)

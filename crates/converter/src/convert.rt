@@ -7,7 +7,7 @@ ghost use Rattle.converter.specs.Hints.{hint};
 ghost use Rattle.converter.specs.Lexing.{lex_error, add_up_to, extend, extend_all, head_of};
 ghost use Rattle.converter.specs.Meaning.{means};
 
-use crate::complaint::{Complaint, complaint_of, unknown_prefix};
+use crate::complaint::{Complaint, complaint_of, is_builtin, unknown_prefix};
 use crate::extend::token_at;
 use crate::head::head_of;
 use crate::hint::has_likely_unterminated_string;
@@ -100,16 +100,15 @@ impl<'a, S: RawSource> Converter<'a, S> {
         ensures { result ≡ settled (hint (S.RawSource.script self.now.source.now) self.now.kinds.now self.now.starts.now 5 self.now.so_far.tokens self.now.so_far.place) text.now complaint }
     {
         match complaint {
-            Complaint::Prefix => unknown_prefix(
-                text,
-                has_likely_unterminated_string(
-                    self.source.script().bytes(),
-                    self.kinds,
-                    self.starts,
-                    self.so_far.tokens,
-                    self.so_far.place,
-                ),
-            ),
+            // Told first: the strings before are read only where they matter.
+            Complaint::Prefix if is_builtin(text) => Complaint::Silent,
+            Complaint::Prefix => unknown_prefix(has_likely_unterminated_string(
+                self.source.script().bytes(),
+                self.kinds,
+                self.starts,
+                self.so_far.tokens,
+                self.so_far.place,
+            )),
             other => other,
         }
     }

@@ -47,6 +47,7 @@ impl<'a, S: RawSource> Iterator for Faults<'a, S> {
 
     ghost remaining = { item_count (λ faults. faults) };
 
+    #[inline(always)]
     fn next(&mut self) -> Option<EscapeError> {
         let fault = self.source.fault_at(self.place, self.number).ok()?;
         self.number += 1;

@@ -48,6 +48,8 @@ impl<'a, S: RawSource> Iterator for Said<'a, S> {
 
     ghost remaining = { item_count (λ codes. codes) };
 
+    // Inlined, as the faults' own: a literal may have a fault for each of its bytes.
+    #[inline(always)]
     fn next(&mut self) -> Option<Message> {
         match self.complaint {
             Complaint::Silent | Complaint::Prefix => None,

@@ -2,13 +2,16 @@
 ghost use Rattle.std.specs.Prelude.{◌≡◌, ◌<◌, ◌≤◌, true, MatchResult};
 ghost use Rattle.raw.specs.Answers.{begins};
 ghost use Rattle.syntax_kind.specs.Editions.{edition_number};
+ghost use Rattle.converter.specs.Codes.{said, messages};
 ghost use Rattle.converter.specs.Meaning.{means};
-ghost use Rattle.converter.specs.Single.{single, single_answer, whole, Single};
+ghost use Rattle.converter.specs.Single.{single, single_answer, whole, last_of, Single};
 
-use crate::complaint::{Complaint, complaint_of, unknown_prefix};
+use crate::complaint::{Complaint, complaint_of, is_builtin, unknown_prefix};
 use crate::extend::{raw_token_at, token_at};
+use crate::faults::Faults;
 use crate::kind::kind_of;
 use crate::message::Message;
+use crate::messages::{Mode, err_to_msg};
 use crate::refusal::Refusal;
 use crate::said::Said;
 use raw::RawSource;
@@ -39,13 +42,37 @@ fn single<S: RawSource>(source: &S, edition: Edition) -> Option<(u16, Option<u16
     let text = &bytes[0..end];
     // No token stands before it.
     let complaint = match complaint_of(token.kind) {
-        Complaint::Prefix => unknown_prefix(text, false),
+        Complaint::Prefix if is_builtin(text) => Complaint::Silent,
+        Complaint::Prefix => unknown_prefix(false),
         other => other,
     };
     Some((
         kind_of(edition, text, token.kind),
-        Said::of(source, 0, complaint).last().map(Message::code),
+        last_code(source, complaint),
     ))
+}
+
+// The code of the last message that there is of the token at the script's start.
+fn last_code<S: RawSource>(source: &S, complaint: Complaint) -> Option<u16>
+    requires { begins (S.RawSource.script source.now) 0 ≡ true }
+    ensures { result ≡ last_of (said (S.RawSource.faults source.now 0) complaint) }
+{
+    match complaint {
+        Complaint::Every(mode) => last_message(Faults::of(source, 0), mode),
+        other => Said::of(source, 0, other).last().map(Message::code),
+    }
+}
+
+// The last of many: a literal may have a fault for each of its bytes. In a loop over the faults alone, what the source
+// looks up alike for each of them is looked up once.
+fn last_message<S: RawSource>(faults: Faults<'_, S>, mode: Mode) -> Option<u16>
+    ensures { result ≡ last_of (messages mode faults.entry) }
+{
+    let mut last = None;
+    for fault in faults {
+        last = err_to_msg(fault, mode).map(Message::code).or(last);
+    }
+    last
 }
 
 // Whether the raw token at the script's start is the whole script, and the edition cuts nothing off.

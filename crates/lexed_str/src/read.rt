@@ -67,17 +67,18 @@ impl<'a> LexedStr<'a> {
     pub fn text_start(&self, i: usize) -> Result<usize, Refusal>
         ensures { result ≡ start_answer self.now.kinds.now self.now.starts.now i }
     {
-        self.starts
-            .get(i)
-            .map(|start| *start as usize)
-            .ok_or(Refusal::NoToken)
+        if i > self.len() {
+            return Err(Refusal::NoToken);
+        }
+        Ok(self.starts[i] as usize)
     }
 
     pub fn text_len(&self, i: usize) -> Result<usize, Refusal>
         ensures { result ≡ len_answer self.now.kinds.now self.now.starts.now i }
     {
         self.check(i)?;
-        Ok(self.places(i, i + 1).len())
+        let Range { start, end } = self.places(i, i + 1);
+        Ok(end - start)
     }
 
     // The code of the token's first error, if it has one.

@@ -120,10 +120,11 @@ impl fmt::Display for Text<'_> {
     }
 }
 
-// A byte that is no printable ASCII is escaped, so that each token is one line of plain text. Quotes need no escape.
+// A byte that is no printable ASCII is escaped, so that each token is one line of plain text, and so is the backslash.
+// Any other, a quote too, is written as it is: through the escapes each would cost as much as a formatted value.
 fn write_byte<W: fmt::Write>(f: &mut fmt::Formatter<W>, byte: u8) -> fmt::Result {
     match byte {
-        b'\'' | b'"' => f.write_char(byte as char),
+        b' '..=b'[' | b']'..=b'~' => f.write_char(byte as char),
         _ => write!(f, "{}", byte.escape_ascii()),
     }
 }

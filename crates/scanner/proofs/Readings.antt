@@ -98,3 +98,10 @@ reading xs =
     none m (λ f k s. never_none (token_of f k) (sym answer ∙ only xs f k s)) answer)
     (cases_Bool (begins slash star xs)))
     (cases_Bool (begins slash slash xs))
+
+-- so it is of every answer that is the comment
+pub read_as : (xs : List ℕ) (o : Option RawToken) → o ≡ comment xs → Reading xs o
+read_as xs o is = subst (Reading xs) (sym is) (reading xs)
+
+pub read_only : (xs : List ℕ) (o : Option RawToken) → o ≡ comment xs → (f : Form) (n : ℕ) → Stands f n xs → o ≡ Some (token_of f n)
+read_only xs o is f n s = is ∙ only xs f n s

@@ -83,8 +83,11 @@ impl Rest<'_> {
         self.span(kind, end.map_or(self.bytes.len(), |len| len + 2))
     }
 
+    // The comment that the bytes begin with, if they do.
     pub(crate) fn comment(&self) -> Option<RawToken>
-        ensures { result ≡ comment self.now.bytes.now }
+        ensures value { result ≡ comment self.now.bytes.now }
+        ensures grammar { Reading self.now.bytes.now result }
+        ensures only { (f : Form) (n : ℕ) → Stands f n self.now.bytes.now → result ≡ Some (token_of f n) }
     {
         match self.bytes {
             [b'/', b'/', ..] => Some(self.line_comment()),

@@ -1,7 +1,8 @@
 // The editions of Rust, and which texts are keywords in each.
-ghost use Rattle.std.specs.Prelude.{◌≡◌, Some};
+ghost use Rattle.std.specs.Prelude.{◌≡◌, ℕ, Some, None, Ok};
 ghost use Rattle.syntax_kind.specs.Editions.{edition_number, Decodes, unknown_text};
-ghost use Rattle.syntax_kind.specs.Keywords.{look_up, strict, contextual};
+ghost use Rattle.syntax_kind.specs.Keywords.{Answer, look_up, strict, contextual};
+ghost use Rattle.syntax_kind.specs.Named.{Named};
 
 use crate::Refusal;
 use crate::keywords::look_up;
@@ -33,14 +34,19 @@ impl Edition {
 
     /// The kind of the strict keyword that `ident` is in this edition, if it is one.
     pub fn keyword(self, ident: &[u8]) -> Option<u16>
-        ensures { result ≡ look_up strict ident.now (edition_number self) }
+        ensures value { result ≡ look_up strict ident.now (edition_number self) }
+        ensures named { Named strict ident.now (edition_number self) (Ok result) }
+        ensures only { (a : Answer) → Named strict ident.now (edition_number self) a → a ≡ Ok result }
     {
         look_up(&STRICT, ident, self)
     }
 
     /// The kind of the contextual keyword that `ident` is in this edition, if it is one.
     pub fn contextual_keyword(self, ident: &[u8]) -> Option<u16>
-        ensures { result ≡ look_up contextual ident.now (edition_number self) }
+        ensures value { result ≡ look_up contextual ident.now (edition_number self) }
+        ensures named { Named contextual ident.now (edition_number self) (Ok result) }
+        ensures only { (a : Answer) → Named contextual ident.now (edition_number self) a → a ≡ Ok result }
+        ensures apart { (kind : ℕ) → result ≡ Some kind → look_up strict ident.now (edition_number self) ≡ None }
     {
         look_up(&CONTEXTUAL, ident, self)
     }

@@ -1,5 +1,7 @@
 // The lines that are printed for answers.
+ghost use Rattle.std.specs.Prelude.{◌<◌, ◌≤◌};
 ghost use Rattle.std.specs.Iterator.{IsFinite};
+ghost use Rattle.lexed_str.specs.Columns.{tokens};
 
 use input::Input;
 use lexed_str::{LexError, LexedStr};
@@ -41,6 +43,22 @@ where
     Ok(())
 }
 
+// An entry's kind and start: a row has no entry past the end's.
+fn kind_of(lexed: &LexedStr, i: usize) -> u16
+    requires { i ≤ tokens lexed.now.kinds.now }
+{
+    lexed.kind(i).unwrap_or(EOF)
+}
+
+fn start_of(lexed: &LexedStr, i: usize) -> usize
+    requires { i ≤ tokens lexed.now.kinds.now }
+{
+    let Ok(start) = lexed.text_start(i) else {
+        unreachable()
+    };
+    start
+}
+
 impl fmt::Display for ErrorText {
     fn fmt<W: fmt::Write>(&self, f: &mut fmt::Formatter<W>) -> fmt::Result {
         let LexError { token, code } = self.0;
@@ -52,16 +70,29 @@ impl fmt::Display for ColumnsText<'_> {
     fn fmt<W: fmt::Write>(&self, f: &mut fmt::Formatter<W>) -> fmt::Result {
         let lexed = &self.0;
         let entries = 0..=lexed.len();
-        write_row(f, entries.map(|i| lexed.kind(i).unwrap_or(EOF)))?;
+        write_row(f, entries.map(|i| kind_of(lexed, i)))?;
         f.write_str("|")?;
         let entries = 0..=lexed.len();
-        write_row(f, entries.filter_map(|i| lexed.text_start(i).ok()))?;
+        write_row(f, entries.map(|i| start_of(lexed, i)))?;
         f.write_str("|")?;
         if lexed.errors().is_empty() {
             return f.write_str("-");
         }
         write_row(f, lexed.errors().iter().map(|error| ErrorText(*error)))
     }
+}
+
+// The kinds of an entry: a row has no entry that the input does not have.
+fn input_kind(input: &Input, i: usize) -> u16
+    requires { i < input.now.len }
+{
+    input.kind(i)
+}
+
+fn input_contextual_kind(input: &Input, i: usize) -> u16
+    requires { i < input.now.len }
+{
+    input.contextual_kind(i)
 }
 
 impl fmt::Display for InputText<'_, '_> {
@@ -71,9 +102,9 @@ impl fmt::Display for InputText<'_, '_> {
         if len == 0 {
             return f.write_str("-|-|-");
         }
-        write_row(f, (0..len).map(|i| input.kind(i)))?;
+        write_row(f, (0..len).map(|i| input_kind(input, i)))?;
         f.write_str("|")?;
-        write_row(f, (0..len).map(|i| input.contextual_kind(i)))?;
+        write_row(f, (0..len).map(|i| input_contextual_kind(input, i)))?;
         f.write_str("|")?;
         // An input is asked for an entry by its number.
         for i in 0..len {

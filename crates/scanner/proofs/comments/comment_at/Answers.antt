@@ -1,8 +1,7 @@
-use Rattle.std.proofs.Common.{rules, ◌≡◌, ◌<◌, length, drop, ap, arith, sym, ◌∙◌, subst}
+use Rattle.std.proofs.Common.{◌≡◌, ◌<◌, length, drop, ap, arith, sym, ◌∙◌}
 use Rattle.std.proofs.lemmas.List.{drop_all}
 use Rattle.scanner.specs.Comments.{comment}
-use Rattle.scanner.specs.Reading.{Reading}
-use Rattle.scanner.proofs.Readings.{reading, only}
+use Rattle.scanner.proofs.Readings.{read_as, read_only}
 use Rattle.scanner.proofs.comments.comment_at.Goals as goal
 
 pub returns-in_err-at : goal.returns-in_err-at
@@ -11,10 +10,4 @@ returns-in_err-at c =
     let xs = drop c.args.place bs in
     let past : length bs < c.args.place = c.in_err-at.ensures in
     let is : c.from_residual.result ≡ comment xs = c.from_residual.ensures ∙ ap comment (sym (drop_all c.args.place bs (omega arith))) in
-    record { value = is; grammar = subst (Reading xs) (sym is) (reading xs); only = λ f n s. is ∙ only xs f n s }
-
-pub returns : goal.returns
-returns c =
-    let xs = drop c.args.place c.args.script.now.bytes.now in
-    let is : c.comment.result ≡ comment xs = search rules in
-    record { value = is; grammar = subst (Reading xs) (sym is) (reading xs); only = λ f n s. is ∙ only xs f n s }
+    record { value = is; grammar = read_as xs _ is; only = read_only xs _ is }

@@ -18,9 +18,9 @@ returns-then-self-end c =
 pub returns-in-Some : goal.returns-in-Some
 returns-in-Some c =
     let rest = c.args.self.now in
-    comment_there rest.script.bytes.now rest.place c.white_end-end.result (c.white_end-end.ensures.value ∙ ap (λ z. run_end white z rest.place) c.bytes.ensures) c.in-Some.comment c.if-self-end.false (c.in-Some.ensures ∙ ap comment rest.left)
+    comment_there rest.script.bytes.now rest.place c.white_end-end.result (c.white_end-end.ensures.value ∙ ap (λ z. run_end white z rest.place) c.bytes.ensures) c.in-Some.comment c.if-self-end.false (c.in-Some.ensures.value ∙ ap comment rest.left)
 
 pub returns-in-None : goal.returns-in-None
 returns-in-None c =
     let rest = c.args.self.now in
-    c.word.ensures ∙ word_there rest.script.bytes.now rest.place c.white_end-end.result (c.white_end-end.ensures.value ∙ ap (λ z. run_end white z rest.place) c.bytes.ensures) c.if-self-end.false (c.in-None.ensures ∙ ap comment rest.left)
+    c.word.ensures ∙ word_there rest.script.bytes.now rest.place c.white_end-end.result (c.white_end-end.ensures.value ∙ ap (λ z. run_end white z rest.place) c.bytes.ensures) c.if-self-end.false (c.in-None.ensures.value ∙ ap comment rest.left)
